@@ -1,0 +1,214 @@
+-- Task vectors in code: one bit set, one bit cleared, the highest.
+use Prim.Native.Nat.{ℕ, zero, suc, _+_, _-_, _*_, _/_, _%_, _^_, _<_, _≤_, min, max}
+use mathlib.Core.Path.{_≡_, refl, sym, ap, _∙_, subst, fun-ext}
+use mathlib.Core.Bool.{Bool, true, false, _&&_, _||_, not, cond}
+use mathlib.Core.Logic.{_⊎_, inl, inr, ⊎-elim}
+use native.Mathlib.Omega.{arith}
+use lib.Dec.{eqb, ltb}
+use lib.Bits.{bitAnd, bitOr, and-mask, or-lt, and-le-l}
+use Rattle.std.proofs.shelf.Bits.{one-shl}
+use lib.Count.{leadingZeros, leading-top}
+use lib.Pow.{pow-pos, pow-lt, pow-mono}
+use Rattle.std.specs.declared.option.Option.{Option}
+use Rattle.std.specs.declared.option.Option.the-variants.{Some, None}
+use Rattle.std.proofs.shelf.Tests.{cases-eq, cases-lt, lt-ltb, le-ltb, eq-eqb, ne-eqb, and-from, and-parts, ltb-true, eqb-true, cases-bool, cond-true, cond-false, or-parts, or-from, not-false, not-true, or-cases, false≢true}
+use Rattle.std.proofs.shelf.Ways.{tells}
+use Rattle.vectors.specs.Vectors.{in-vector, with, without, highest, some, strays}
+use native.Mathlib.Nat.{pow-suc}
+use Rattle.vectors.proofs.Bits.{bit, bit-or, bit-and, bit-not, bit-zero, bit-above, bit-top, bit-one, bit-apart, bit-half, bit-first}
+
+pub in-with : (v t : ℕ) → t < 64 → in-vector (bitOr v (2 ^ t)) ≡ with t (in-vector v)
+in-with v t h = fun-ext (λ k. ⊎-elim
+    (λ (e : k ≡ t). let b : bit (bitOr v (2 ^ t)) k ≡ 1 = omega (arith, bit-or v (2 ^ t) k, subst (λ (n : ℕ). bit (2 ^ t) n ≡ 1) (sym e) (bit-one t)) in grind (arith, tells))
+    (λ ne. let b : bit (bitOr v (2 ^ t)) k ≡ bit v k = omega (arith, bit-or v (2 ^ t) k, bit-apart t k ne) in grind (arith, tells))
+    (cases-eq k t))
+
+pub in-without : (v t : ℕ) → t < 64 → in-vector (bitAnd v ((2 ^ 64 - 1) - 2 ^ t)) ≡ without t (in-vector v)
+in-without v t h =
+    let p : 2 ^ t < 2 ^ 64 = pow-lt h in
+    fun-ext (λ k. ⊎-elim
+    (λ (l : k < 64).
+    let n : bit ((2 ^ 64 - 1) - 2 ^ t) k ≡ 1 - bit (2 ^ t) k = bit-not 64 k (2 ^ t) p l in
+    let a = bit-and v ((2 ^ 64 - 1) - 2 ^ t) k in
+    ⊎-elim
+    (λ (e : k ≡ t). let b : bit (bitAnd v ((2 ^ 64 - 1) - 2 ^ t)) k ≡ 0 = omega (arith, subst (λ (n : ℕ). bit (2 ^ t) n ≡ 1) (sym e) (bit-one t)) in grind (arith, tells))
+    (λ ne. let b : bit (bitAnd v ((2 ^ 64 - 1) - 2 ^ t)) k ≡ bit v k = omega (arith, bit-apart t k ne) in grind (arith, tells))
+    (cases-eq k t))
+    (λ (l : 64 ≤ k). grind (arith, tells))
+    (cases-lt k 64))
+
+pub in-none : (t : ℕ) → in-vector 0 t ≡ false
+in-none t = let e = bit-zero t in grind (arith, tells)
+
+pub in-test : (v t : ℕ) → t < 64 → eqb (bitAnd (v / 2 ^ t) 1) 1 ≡ in-vector v t
+in-test v t h = let e : bitAnd (v / 2 ^ t) 1 ≡ bit v t = and-mask (v / 2 ^ t) 1 in grind (arith, tells)
+
+pub in-below : (v c t : ℕ) → v < 2 ^ c → in-vector v t ≡ true → t < c
+in-below v c t h e = ⊎-elim (λ l. l) (λ l. let z = bit-above v c t h l in grind (arith, tells)) (cases-lt t c)
+
+-- the highest, by the tests
+pub highest-none : (n : ℕ) (m : ℕ → Bool) → ((k : ℕ) → k < n → m k ≡ false) → highest n m ≡ None
+unfolding highest
+highest-none zero m h = refl
+highest-none (suc n) m h = cond-false (m n) (Some n) (highest n m) (h n (omega arith)) ∙ highest-none n m (λ k l. h k (omega arith))
+
+pub highest-is : (n j : ℕ) (m : ℕ → Bool) → j < n → m j ≡ true → ((k : ℕ) → j < k → k < n → m k ≡ false) → highest n m ≡ Some j
+unfolding highest
+highest-is zero j m l e h = absurd (omega arith)
+highest-is (suc n) j m l e h = ⊎-elim
+    (λ (q : j ≡ n). subst (λ (x : ℕ). highest (suc n) m ≡ Some x) (sym q) (cond-true (m n) (Some n) (highest n m) (subst (λ (x : ℕ). m x ≡ true) q e)))
+    (λ ne. cond-false (m n) (Some n) (highest n m) (h n (omega arith) (omega arith)) ∙ highest-is n j m (omega arith) e (λ k a b. h k a (omega arith)))
+    (cases-eq j n)
+
+pub highest-empty : (c : ℕ) → highest c (in-vector 0) ≡ None
+highest-empty c = highest-none c (in-vector 0) (λ k l. in-none k)
+
+pub highest-word : (v c : ℕ) → c ≤ 64 → 0 < v → v < 2 ^ c → highest c (in-vector v) ≡ Some (63 - leadingZeros 64 v)
+highest-word v c s p h =
+    let big : v < 2 ^ 64 = omega (arith, pow-mono s) in
+    let top = leading-top 64 v p big in
+    let j = top .0 in
+    let one : bit v j ≡ 1 = bit-top v j (top .2) (top .3) in
+    let small : j < 64 = omega (arith, top .1) in
+    let here : in-vector v j ≡ true = grind (arith, tells) in
+    let low : j < c = in-below v c j h here in
+    highest-is c j (in-vector v) low here (λ k a b. let z : bit v k ≡ 0 = bit-above v (suc j) k (top .3) a in grind (arith, tells)) ∙ ap Some (omega (arith, top .1))
+
+-- as code writes it: `word | (1 << t)` and `word & !(1 << t)`
+abbrev pub shifted : ℕ → ℕ
+shifted t = (1 * 2 ^ t) % 18446744073709551616
+
+pub shifted-is : (t : ℕ) → t < 64 → shifted t ≡ 2 ^ t
+shifted-is t h = one-shl t 64 h
+
+pub code-with : (v t : ℕ) → t < 64 → in-vector (bitOr v (shifted t)) ≡ with t (in-vector v)
+code-with v t h = rw (shifted-is t h) (in-with v t h)
+
+pub code-without : (v t : ℕ) → t < 64 → in-vector (bitAnd v (18446744073709551615 - shifted t)) ≡ without t (in-vector v)
+code-without v t h = rw (shifted-is t h) (in-without v t h)
+
+pub with-below : (v t c : ℕ) → t < c → c ≤ 64 → v < 2 ^ c → bitOr v (shifted t) < 2 ^ c
+with-below v t c h s l = rw (shifted-is t (omega arith)) (or-lt c v (2 ^ t) l (pow-lt h))
+
+pub without-below : (v m c : ℕ) → v < 2 ^ c → bitAnd v m < 2 ^ c
+without-below v m c l = omega (arith, and-le-l v m)
+
+-- what is not there is not taken
+pub without-none : (t : ℕ) (m : ℕ → Bool) → m t ≡ false → m ≡ without t m
+without-none t m e = fun-ext (λ k. ⊎-elim
+    (λ (q : k ≡ t). let z : m k ≡ false = subst (λ (x : ℕ). m x ≡ false) (sym q) e in grind (arith, tells))
+    (λ ne. grind (arith, tells))
+    (cases-eq k t))
+
+pub in-past : (v c t : ℕ) → v < 2 ^ c → c ≤ t → in-vector v t ≡ false
+in-past v c t h l = let z = bit-above v c t h l in grind (arith, tells)
+
+-- v has a task that w lacks
+module _ (v w : ℕ) (big : v < 2 ^ 64) (wide : w < 2 ^ 64) where
+  abbrev lacks : ℕ → Bool
+  lacks t = in-vector v t && not (in-vector w t)
+
+  rest-bit : (k : ℕ) → k < 64 → bit (bitAnd v (18446744073709551615 - w)) k ≡ min (bit v k) (1 - bit w k)
+  rest-bit k h = bit-and v (18446744073709551615 - w) k ∙ ap (min (bit v k)) (bit-not 64 k w wide h)
+
+  rest-false : (n : ℕ) → n ≤ 64 → some n lacks ≡ false → (k : ℕ) → k < n → bit (bitAnd v (18446744073709551615 - w)) k ≡ 0
+  unfolding some
+  rest-false zero l e k h = absurd (omega arith)
+  rest-false (suc n) l e k h =
+      let p = or-parts (lacks n) (some n lacks) e in
+      ⊎-elim
+      (λ (q : k ≡ n). let b = rest-bit k (omega arith) in let z = p .0 in let a : in-vector v k && not (in-vector w k) ≡ false = subst (λ (x : ℕ). in-vector v x && not (in-vector w x) ≡ false) (sym q) z in grind (arith, tells))
+      (λ ne. rest-false n (omega arith) (p .1) k (omega arith))
+      (cases-eq k n)
+
+  rest-true : (n : ℕ) → n ≤ 64 → bitAnd v (18446744073709551615 - w) ≡ 0 → some n lacks ≡ false
+  unfolding some
+  rest-true zero l e = refl
+  rest-true (suc n) l e =
+      let b = rest-bit n (omega arith) in
+      let z : bit (bitAnd v (18446744073709551615 - w)) n ≡ 0 = ap (λ x. bit x n) e ∙ bit-zero n in
+      or-from (in-vector v n && not (in-vector w n)) (some n lacks) (grind (arith, tells)) (rest-true n (omega arith) e)
+
+-- a number with no bit is 0
+pub no-bit : (w v : ℕ) → v < 2 ^ w → ((k : ℕ) → k < w → bit v k ≡ 0) → v ≡ 0
+no-bit zero v h z = omega arith
+no-bit (suc w) v h z =
+    let e : v / 2 ≡ 0 = no-bit w (v / 2) (omega (arith, pow-suc 2 w)) (λ k l. bit-half v k ∙ z (suc k) (omega arith)) in
+    omega (arith, bit-first v, z 0 (omega arith))
+
+pub strays-is : (v w : ℕ) → v < 2 ^ 64 → w < 2 ^ 64 → not (eqb (bitAnd v (18446744073709551615 - w)) 0) ≡ strays v (in-vector w)
+strays-is v w big wide = ⊎-elim
+    (λ (e : bitAnd v (18446744073709551615 - w) ≡ 0). let f = rest-true v w big wide 64 (omega arith) e in grind (arith, tells))
+    (λ ne. ⊎-elim
+    (λ (t : strays v (in-vector w) ≡ true). grind (arith, tells))
+    (λ (f : strays v (in-vector w) ≡ false). absurd (ne (no-bit 64 (bitAnd v (18446744073709551615 - w)) (omega (arith, and-le-l v (18446744073709551615 - w))) (rest-false v w big wide 64 (omega arith) f))))
+    (cases-bool (strays v (in-vector w))))
+    (cases-eq (bitAnd v (18446744073709551615 - w)) 0)
+
+-- what is highest is a member, and below the bound
+pub highest-tells : (n w : ℕ) (m : ℕ → Bool) → highest n m ≡ Some w → (w < n) × (m w ≡ true)
+unfolding highest
+highest-tells zero w m e = let z : _≡_ {A = ℕ} 0 1 = cc in absurd (omega arith)
+highest-tells (suc n) w m e = ⊎-elim
+    (λ (y : m n ≡ true). let q : w ≡ n = (let s : _≡_ {A = Option ℕ} (Some n) (Some w) = sym (cond-true (m n) (Some n) (highest n m) y) ∙ e in cc) in (omega arith, ap m q ∙ y))
+    (λ (f : m n ≡ false). let t = highest-tells n w m (sym (cond-false (m n) (Some n) (highest n m) f) ∙ e) in (omega (arith, t .0), t .1))
+    (cases-bool (m n))
+
+pub in-or : (a b k : ℕ) → in-vector (bitOr a b) k ≡ (in-vector b k || in-vector a k)
+in-or a b k = let e = bit-or a b k in grind (arith, tells)
+
+ok-from : (x y : Bool) → x ≡ true → (x && not y) ≡ false → y ≡ true
+ok-from true y e f = not-false y f
+ok-from false y e f = absurd (false≢true e)
+
+pub in-small : (v t : ℕ) → in-vector v t ≡ true → t < 64
+in-small v t e = ltb-true t 64 (and-parts (ltb t 64) (eqb (v / 2 ^ t % 2) 1) e .0)
+
+none-some : (n : ℕ) (m : ℕ → Bool) → some n m ≡ false → (t : ℕ) → t < n → m t ≡ false
+unfolding some
+none-some zero m e t l = absurd (omega arith)
+none-some (suc n) m e t l =
+    let p = or-parts (m n) (some n m) e in
+    ⊎-elim (λ (q : t ≡ n). ap m q ∙ p .0) (λ ne. none-some n m (p .1) t (omega arith)) (cases-eq t n)
+
+-- where none strays, each passes
+pub none-strays : (v : ℕ) (ok : ℕ → Bool) → strays v ok ≡ false → (t : ℕ) → in-vector v t ≡ true → ok t ≡ true
+none-strays v ok e t y = ok-from (in-vector v t) (ok t) y (none-some 64 (λ k. in-vector v k && not (ok k)) e t (in-small v t y))
+
+pub highest-empties : (n : ℕ) (m : ℕ → Bool) → highest n m ≡ None → (k : ℕ) → k < n → m k ≡ false
+unfolding highest
+highest-empties zero m e k l = absurd (omega arith)
+highest-empties (suc n) m e k l = ⊎-elim
+    (λ (y : m n ≡ true). let z : _≡_ {A = ℕ} 0 1 = (let s : _≡_ {A = Option ℕ} (Some n) None = sym (cond-true (m n) (Some n) (highest n m) y) ∙ e in cc) in absurd (omega arith))
+    (λ (f : m n ≡ false). ⊎-elim
+    (λ (q : k ≡ n). ap m q ∙ f)
+    (λ ne. highest-empties n m (sym (cond-false (m n) (Some n) (highest n m) f) ∙ e) k (omega arith))
+    (cases-eq k n))
+    (cases-bool (m n))
+
+-- a vector with no highest task has none
+pub empty-vector : (v : ℕ) → highest 64 (in-vector v) ≡ None → (k : ℕ) → in-vector v k ≡ false
+empty-vector v e k = ⊎-elim (λ (y : in-vector v k ≡ true). highest-empties 64 (in-vector v) e k (in-small v k y)) (λ f. f) (cases-bool (in-vector v k))
+
+-- a vector is less without one of its tasks
+pub without-less : (v t : ℕ) → in-vector v t ≡ true → bitAnd v (18446744073709551615 - shifted t) < v
+without-less v t y =
+    let w = bitAnd v (18446744073709551615 - shifted t) in
+    ⊎-elim
+    (λ (q : w ≡ v).
+    let e : in-vector w t ≡ without t (in-vector v) t = ap (λ (f : ℕ → Bool). f t) (code-without v t (in-small v t y)) in
+    absurd (false≢true (sym (e ∙ ap (λ b. not b && in-vector v t) (eq-eqb t t refl)) ∙ ap (λ x. in-vector x t) q ∙ y)))
+    (λ (ne : w ≡ v → ⊥). omega (arith, and-le-l v (18446744073709551615 - shifted t), ne))
+    (cases-eq w v)
+
+some-one : (n : ℕ) (m : ℕ → Bool) → some n m ≡ true → (t : ℕ) × (m t ≡ true)
+unfolding some
+some-one zero m e = absurd (false≢true e)
+some-one (suc n) m e = ⊎-elim (λ (z : m n ≡ true). (n, z)) (λ (z : some n m ≡ true). some-one n m z) (or-cases (m n) (some n m) e)
+
+-- where one strays, it is in the vector and fails the test
+pub one-strays : (v : ℕ) (ok : ℕ → Bool) → strays v ok ≡ true → (t : ℕ) × (in-vector v t ≡ true) × (ok t ≡ false)
+one-strays v ok e =
+    let x = some-one 64 (λ t. in-vector v t && not (ok t)) e in
+    let p = and-parts (in-vector v (x .0)) (not (ok (x .0))) (x .1) in
+    (x .0, p .0, not-true (ok (x .0)) (p .1))
