@@ -1,0 +1,9 @@
+pub mod Sets
+pub mod Lists
+pub mod Busy
+pub mod Sound
+pub mod Words
+pub mod Runs
+pub mod Blocking
+pub mod Table
+pub mod All
