@@ -1,0 +1,4 @@
+pub mod Lists
+pub mod Locking
+pub mod Placing
+pub mod Marking
