@@ -1,5 +1,5 @@
 -- Sequences of which the first n values are a list, the newest first: what stands in it, one value more, one less.
-use Prim.Native.Nat.{ℕ, zero, suc, _+_, _-_, _^_, _<_, _≤_}
+use Prim.Native.Nat.{ℕ, zero, suc, _+_, _-_, _<_, _≤_}
 use mathlib.Core.Path.{_≡_, refl, sym, ap, ap₂, _∙_, subst, fun-ext}
 use mathlib.Core.Bool.{Bool, true, false, _||_, _&&_, not, cond}
 use mathlib.Core.List.{List, [], _∷_}
@@ -74,9 +74,9 @@ Notes v xs = (t : ℕ) → in-vector v t ≡ among xs t
 pub noted-more : (v w : ℕ) (xs : List ℕ) → w < 64 → Notes v xs → Notes (bitOr v (shifted 64 w)) (w ∷ xs)
 noted-more v w xs h e t = ap (λ (f : ℕ → Bool). f t) (code-with v w h) ∙ ap (λ b. eqb t w || b) (e t)
 
-pub noted-less : (v w : ℕ) (xs : List ℕ) → v < 2 ^ 64 → w < 64 → among xs w ≡ false → Notes v (w ∷ xs) → Notes (bitAnd v (18446744073709551615 - shifted 64 w)) xs
-noted-less v w xs big h gone e t =
-    ap (λ (f : ℕ → Bool). f t) (code-without v w big h) ∙ ap (λ b. not (eqb t w) && b) (e t)
+pub noted-less : (v w : ℕ) (xs : List ℕ) → w < 64 → among xs w ≡ false → Notes v (w ∷ xs) → Notes (bitAnd v (18446744073709551615 - shifted 64 w)) xs
+noted-less v w xs h gone e t =
+    ap (λ (f : ℕ → Bool). f t) (code-without v w h) ∙ ap (λ b. not (eqb t w) && b) (e t)
     ∙ ⊎-elim
     (λ (q : t ≡ w). ap (λ b. not b && (b || among xs t)) (eq-eqb t w q) ∙ sym (ap (among xs) q ∙ gone))
     (λ (ne : t ≡ w → ⊥). ap (λ b. not b && (b || among xs t)) (ne-eqb t w ne))

@@ -30,19 +30,19 @@ pigeons (suc k) (suc n) f ins ap′ =
     let at : (i : ℕ) → f i ≡ k → g i ≡ f n = λ i e. cond-true (eqb (f i) k) (f n) (f i) (eq-eqb (f i) k e) in
     let off : (i : ℕ) → (f i ≡ k → ⊥) → g i ≡ f i = λ i ne. cond-false (eqb (f i) k) (f n) (f i) (ne-eqb (f i) k ne) in
     let below : (i : ℕ) → i < n → g i < k = λ i l. ⊎-elim
-        (λ (e : f i ≡ k). let ne : f n ≡ k → ⊥ = λ q. ap′ i n l (omega arith) (e ∙ sym q) in omega (arith, at i e, ins n (omega arith)))
-        (λ (ne : f i ≡ k → ⊥). omega (arith, off i ne, ins i (omega arith)))
-        (cases-eq (f i) k) in
+    (λ (e : f i ≡ k). let ne : f n ≡ k → ⊥ = λ q. ap′ i n l (omega arith) (e ∙ sym q) in omega (arith, at i e, ins n (omega arith)))
+    (λ (ne : f i ≡ k → ⊥). omega (arith, off i ne, ins i (omega arith)))
+    (cases-eq (f i) k) in
     let apart : (i j : ℕ) → i < j → j < n → g i ≡ g j → ⊥ = λ i j l h e. ⊎-elim
-        (λ (p : f i ≡ k). ⊎-elim
-            (λ (q : f j ≡ k). ap′ i j l (omega arith) (p ∙ sym q))
-            (λ (q : f j ≡ k → ⊥). ap′ j n h (omega arith) (sym (off j q) ∙ sym e ∙ at i p))
-            (cases-eq (f j) k))
-        (λ (p : f i ≡ k → ⊥). ⊎-elim
-            (λ (q : f j ≡ k). ap′ i n (omega arith) (omega arith) (sym (off i p) ∙ e ∙ at j q))
-            (λ (q : f j ≡ k → ⊥). ap′ i j l (omega arith) (sym (off i p) ∙ e ∙ off j q))
-            (cases-eq (f j) k))
-        (cases-eq (f i) k) in
+    (λ (p : f i ≡ k). ⊎-elim
+    (λ (q : f j ≡ k). ap′ i j l (omega arith) (p ∙ sym q))
+    (λ (q : f j ≡ k → ⊥). ap′ j n h (omega arith) (sym (off j q) ∙ sym e ∙ at i p))
+    (cases-eq (f j) k))
+    (λ (p : f i ≡ k → ⊥). ⊎-elim
+    (λ (q : f j ≡ k). ap′ i n (omega arith) (omega arith) (sym (off i p) ∙ e ∙ at j q))
+    (λ (q : f j ≡ k → ⊥). ap′ i j l (omega arith) (sym (off i p) ∙ e ∙ off j q))
+    (cases-eq (f j) k))
+    (cases-eq (f i) k) in
     omega (arith, pigeons k n g below apart)
 
 -- one more value below k that is none of them leaves at most k in all
@@ -54,9 +54,9 @@ room-for k n r f ins apart small free =
     pigeons k (suc n) g
     (λ i l. ⊎-elim (λ (e : i ≡ n). omega (arith, at i e)) (λ (ne : i ≡ n → ⊥). omega (arith, off i ne, ins i (omega arith))) (cases-eq i n))
     (λ i j l h q. let ni : i ≡ n → ⊥ = λ e. omega arith in ⊎-elim
-        (λ (e : j ≡ n). free i (omega arith) (sym (off i ni) ∙ q ∙ at j e))
-        (λ (ne : j ≡ n → ⊥). apart i j l (omega arith) (sym (off i ni) ∙ q ∙ off j ne))
-        (cases-eq j n))
+    (λ (e : j ≡ n). free i (omega arith) (sym (off i ni) ∙ q ∙ at j e))
+    (λ (ne : j ≡ n → ⊥). apart i j l (omega arith) (sym (off i ni) ∙ q ∙ off j ne))
+    (cases-eq j n))
 
 pub apart-push : (f g : ℕ → ℕ) (n r : ℕ) → ((i : ℕ) → i < n → g i ≡ f i) → g n ≡ r → ((i : ℕ) → i < n → f i ≡ r → ⊥) → Apart n f → Apart (n + 1) g
 apart-push f g n r same here free h i j l b e = ⊎-elim
@@ -92,9 +92,9 @@ not-held f zero r e i l q = omega arith
 not-held f (suc n) r e i l q = ⊎-elim
     (λ (y : r ≡ f n .0). let z : _≡_ {A = ℕ} 0 1 = (let s = sym (cond-true (eqb r (f n .0)) (Some (f n .1)) (holder (newest-first f n) r) (eq-eqb r (f n .0) y)) ∙ e in cc) in omega arith)
     (λ (ne : r ≡ f n .0 → ⊥). ⊎-elim
-        (λ (a : i ≡ n). ne (sym q ∙ ap (λ j. f j .0) a))
-        (λ (b : i ≡ n → ⊥). not-held f n r (sym (cond-false (eqb r (f n .0)) (Some (f n .1)) (holder (newest-first f n) r) (ne-eqb r (f n .0) ne)) ∙ e) i (omega arith) q)
-        (cases-eq i n))
+    (λ (a : i ≡ n). ne (sym q ∙ ap (λ j. f j .0) a))
+    (λ (b : i ≡ n → ⊥). not-held f n r (sym (cond-false (eqb r (f n .0)) (Some (f n .1)) (holder (newest-first f n) r) (ne-eqb r (f n .0) ne)) ∙ e) i (omega arith) q)
+    (cases-eq i n))
     (cases-eq r (f n .0))
 
 -- one lock back

@@ -1,15 +1,14 @@
 -- Marks in an array of vectors.
-use Prim.Native.Nat.{ℕ, zero, suc, _-_, _^_, _<_, _≤_}
-use mathlib.Core.Path.{_≡_, refl, sym, ap, _∙_, subst, fun-ext}
+use Prim.Native.Nat.{ℕ, _-_, _<_, _≤_}
+use mathlib.Core.Path.{_≡_, refl, sym, ap, _∙_, fun-ext}
 use mathlib.Core.Bool.{Bool, true, false, _||_, _&&_, not}
-use mathlib.Core.List.{List, [], _∷_}
+use mathlib.Core.List.{List}
 use mathlib.Core.Logic.{_≢_, ⊎-elim}
 use lib.Dec.{eqb}
 use lib.Bits.{bitAnd, bitOr}
 use lib.ListN.{length, getD, set, replicate}
 use lib.Seq.{getD-set-same, getD-set-other}
 use Rattle.std.specs.declared.option.Option.the-variants.{Some}
-use native.Mathlib.Omega.{arith}
 use Rattle.std.proofs.shelf.Lists.{getD-past}
 use Rattle.std.proofs.shelf.Tests.{cases-eq, eq-eqb, ne-eqb}
 use Rattle.vectors.specs.Vectors.{in-vector}
@@ -24,23 +23,23 @@ marks ms e t = in-vector (getD ms e 0) t
 pub marks-set : (ms : List ℕ) (e v : ℕ) → e < length ms → marks (set ms e (bitOr (getD ms e 0) v)) ≡ marked-too e (in-vector v) (marks ms)
 marks-set ms e v l = fun-ext (λ a. fun-ext (λ t. ⊎-elim
     (λ (q : a ≡ e).
-        let s : getD (set ms e (bitOr (getD ms e 0) v)) a 0 ≡ bitOr (getD ms a 0) v = ap (λ k. getD (set ms e (bitOr (getD ms e 0) v)) k 0) q ∙ (rw getD-set-same) ∙ ap (λ k. bitOr (getD ms k 0) v) (sym q) in
-        ap (λ x. in-vector x t) s ∙ in-or (getD ms a 0) v t ∙ sym (ap (λ b. (b && in-vector v t) || in-vector (getD ms a 0) t) (eq-eqb a e q)))
+    let s : getD (set ms e (bitOr (getD ms e 0) v)) a 0 ≡ bitOr (getD ms a 0) v = ap (λ k. getD (set ms e (bitOr (getD ms e 0) v)) k 0) q ∙ (rw getD-set-same) ∙ ap (λ k. bitOr (getD ms k 0) v) (sym q) in
+    ap (λ x. in-vector x t) s ∙ in-or (getD ms a 0) v t ∙ sym (ap (λ b. (b && in-vector v t) || in-vector (getD ms a 0) t) (eq-eqb a e q)))
     (λ (ne : a ≢ e).
-        let s : getD (set ms e (bitOr (getD ms e 0) v)) a 0 ≡ getD ms a 0 = rw getD-set-other in
-        ap (λ x. in-vector x t) s ∙ sym (ap (λ b. (b && in-vector v t) || in-vector (getD ms a 0) t) (ne-eqb a e ne)))
+    let s : getD (set ms e (bitOr (getD ms e 0) v)) a 0 ≡ getD ms a 0 = rw getD-set-other in
+    ap (λ x. in-vector x t) s ∙ sym (ap (λ b. (b && in-vector v t) || in-vector (getD ms a 0) t) (ne-eqb a e ne)))
     (cases-eq a e)))
 
-pub marks-clear : (ms : List ℕ) (e u : ℕ) → e < length ms → getD ms e 0 < 2 ^ 64 → u < 64 → marks (set ms e (bitAnd (getD ms e 0) (18446744073709551615 - shifted 64 u))) ≡ unmarked e u (marks ms)
-marks-clear ms e u l big h = fun-ext (λ a. fun-ext (λ t. ⊎-elim
+pub marks-clear : (ms : List ℕ) (e u : ℕ) → e < length ms → u < 64 → marks (set ms e (bitAnd (getD ms e 0) (18446744073709551615 - shifted 64 u))) ≡ unmarked e u (marks ms)
+marks-clear ms e u l h = fun-ext (λ a. fun-ext (λ t. ⊎-elim
     (λ (q : a ≡ e).
-        let x = bitAnd (getD ms e 0) (18446744073709551615 - shifted 64 u) in
-        let s : getD (set ms e (bitAnd (getD ms e 0) (18446744073709551615 - shifted 64 u))) a 0 ≡ bitAnd (getD ms a 0) (18446744073709551615 - shifted 64 u)
-            = ap (λ k. getD (set ms e (bitAnd (getD ms e 0) (18446744073709551615 - shifted 64 u))) k 0) q ∙ (rw getD-set-same) ∙ ap (λ k. bitAnd (getD ms k 0) (18446744073709551615 - shifted 64 u)) (sym q) in
-        ap (λ y. in-vector y t) s ∙ ap (λ f. f t) (code-without (getD ms a 0) u (subst (λ (j : ℕ). getD ms j 0 < 2 ^ 64) (sym q) big) h) ∙ sym (ap (λ b. not (b && eqb t u) && in-vector (getD ms a 0) t) (eq-eqb a e q)))
+    let x = bitAnd (getD ms e 0) (18446744073709551615 - shifted 64 u) in
+    let s : getD (set ms e (bitAnd (getD ms e 0) (18446744073709551615 - shifted 64 u))) a 0 ≡ bitAnd (getD ms a 0) (18446744073709551615 - shifted 64 u)
+    = ap (λ k. getD (set ms e (bitAnd (getD ms e 0) (18446744073709551615 - shifted 64 u))) k 0) q ∙ (rw getD-set-same) ∙ ap (λ k. bitAnd (getD ms k 0) (18446744073709551615 - shifted 64 u)) (sym q) in
+    ap (λ y. in-vector y t) s ∙ ap (λ f. f t) (code-without (getD ms a 0) u h) ∙ sym (ap (λ b. not (b && eqb t u) && in-vector (getD ms a 0) t) (eq-eqb a e q)))
     (λ (ne : a ≢ e).
-        let s : getD (set ms e (bitAnd (getD ms e 0) (18446744073709551615 - shifted 64 u))) a 0 ≡ getD ms a 0 = rw getD-set-other in
-        ap (λ y. in-vector y t) s ∙ sym (ap (λ b. not (b && eqb t u) && in-vector (getD ms a 0) t) (ne-eqb a e ne)))
+    let s : getD (set ms e (bitAnd (getD ms e 0) (18446744073709551615 - shifted 64 u))) a 0 ≡ getD ms a 0 = rw getD-set-other in
+    ap (λ y. in-vector y t) s ∙ sym (ap (λ b. not (b && eqb t u) && in-vector (getD ms a 0) t) (ne-eqb a e ne)))
     (cases-eq a e)))
 
 and-none : (a : Bool) → (a && false) ≡ false

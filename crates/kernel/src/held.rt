@@ -20,7 +20,11 @@ impl HeldList {
         ensures { λ r. ⌜ r .count ≡ 0 ⌝ }
     {
         HeldList {
-            locks: [HeldLock { resource: 0, holder: 0, level: None }; 32],
+            locks: [HeldLock {
+                resource: 0,
+                holder: 0,
+                level: None,
+            }; 32],
             count: 0,
             taken: 0,
         }

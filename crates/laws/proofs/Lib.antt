@@ -7,3 +7,4 @@ pub mod Runs
 pub mod Blocking
 pub mod Table
 pub mod All
+pub mod Histories

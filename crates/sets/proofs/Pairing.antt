@@ -46,7 +46,7 @@ module _ (a b : ℕ) (f g : ℕ → Bool) (fits : a + b ≤ 64) where
       let t = highest-tells b x g e in
       ap (λ n. highest n (pair-holds a b f g)) wide
       ∙ highest-is (a + b) (a + x) (pair-holds a b f g) (omega (arith, t .0)) (high (a + x) (omega arith) ∙ ap g (omega arith) ∙ t .1)
-        (λ k l u. high k (omega arith) ∙ none-above b x g e (k - a) (omega arith) (omega arith))
+      (λ k l u. high k (omega arith) ∙ none-above b x g e (k - a) (omega arith) (omega arith))
 
   pub highest-first : highest b g ≡ None → highest (pair-room a b) (pair-holds a b f g) ≡ highest a f
   highest-first e =

@@ -114,14 +114,20 @@ shifted-is w t h = one-shl t w h
 pub switch-on : (w x k j : ℕ) → k < w → on (bitOr x (shifted w k)) j ≡ (eqb j k || on x j)
 switch-on w x k j h = ap (λ n. on (bitOr x n) j) (shifted-is w k h) ∙ on-or x (2 ^ k) j ∙ ap (λ b. b || on x j) (on-one k j)
 
+-- below the width
+pub switch-off-low : (w x k j : ℕ) → k < w → j < w → on (bitAnd x ((2 ^ w - 1) - shifted w k)) j ≡ (not (eqb j k) && on x j)
+switch-off-low w x k j h l =
+    ap (λ n. on (bitAnd x ((2 ^ w - 1) - n)) j) (shifted-is w k h) ∙ on-and x ((2 ^ w - 1) - 2 ^ k) j
+    ∙ ap (λ b. b && on x j) (on-not w j (2 ^ k) (pow-lt h) l ∙ ap not (on-one k j))
+
 pub switch-off : (w x k j : ℕ) → x < 2 ^ w → k < w → on (bitAnd x ((2 ^ w - 1) - shifted w k)) j ≡ (not (eqb j k) && on x j)
 switch-off w x k j small h =
-    ap (λ n. on (bitAnd x ((2 ^ w - 1) - n)) j) (shifted-is w k h) ∙ on-and x ((2 ^ w - 1) - 2 ^ k) j
-    ∙ ⊎-elim
-    (λ (l : j < w). ap (λ b. b && on x j) (on-not w j (2 ^ k) (pow-lt h) l ∙ ap not (on-one k j)))
+    ⊎-elim
+    (λ (l : j < w). switch-off-low w x k j h l)
     (λ (l : w ≤ j).
     let off = on-above x w j small l in
-    ap (λ b. on ((2 ^ w - 1) - 2 ^ k) j && b) off ∙ and-no (on ((2 ^ w - 1) - 2 ^ k) j) ∙ sym (ap (λ b. not (eqb j k) && b) off ∙ and-no (not (eqb j k))))
+    on-and x ((2 ^ w - 1) - shifted w k) j ∙ ap (λ b. on ((2 ^ w - 1) - shifted w k) j && b) off ∙ and-no (on ((2 ^ w - 1) - shifted w k) j)
+    ∙ sym (ap (λ b. not (eqb j k) && b) off ∙ and-no (not (eqb j k))))
     (cases-lt j w)
 
 -- `(x >> k) & 1 == 1` asks for bit k

@@ -14,7 +14,7 @@ use Rattle.std.proofs.shelf.Tests.{cases-eq, cases-lt, lt-ltb, le-ltb, eq-eqb, 
 use Rattle.std.proofs.shelf.Ways.{tells}
 use Rattle.vectors.specs.Vectors.{on, in-vector, vector-of, with, without, highest, some, strays}
 use native.Mathlib.Nat.{pow-suc, mod-lt}
-use Rattle.vectors.proofs.Bits.{bit, bit-mod, bit-and, bit-not, bit-zero, bit-above, bit-top, bit-half, bit-first, on-or, on-test, shifted, shifted-is, switch-on, switch-off}
+use Rattle.vectors.proofs.Bits.{bit, bit-mod, bit-and, bit-not, bit-zero, bit-above, bit-top, bit-half, bit-first, on-or, on-test, shifted, shifted-is, switch-on, switch-off-low}
 
 -- a change of one number in a set of numbers below n: f says what becomes of it, by whether a number is t and whether it was there
 pub changed-below : (n t : ℕ) (f : Bool → Bool → Bool) (a b : ℕ → Bool) → ((o : Bool) → f false o ≡ o) → t < n
@@ -68,8 +68,8 @@ highest-word v c s p h =
 pub code-with : (v t : ℕ) → t < 64 → in-vector (bitOr v (shifted 64 t)) ≡ with t (in-vector v)
 code-with v t h = changed-below 64 t (λ e o. e || o) (on (bitOr v (shifted 64 t))) (on v) (λ o. refl) h (λ k l. switch-on 64 v t k h)
 
-pub code-without : (v t : ℕ) → v < 2 ^ 64 → t < 64 → in-vector (bitAnd v (18446744073709551615 - shifted 64 t)) ≡ without t (in-vector v)
-code-without v t big h = changed-below 64 t (λ e o. not e && o) (on (bitAnd v (18446744073709551615 - shifted 64 t))) (on v) (λ o. refl) h (λ k l. switch-off 64 v t k big h)
+pub code-without : (v t : ℕ) → t < 64 → in-vector (bitAnd v (18446744073709551615 - shifted 64 t)) ≡ without t (in-vector v)
+code-without v t h = changed-below 64 t (λ e o. not e && o) (on (bitAnd v (18446744073709551615 - shifted 64 t))) (on v) (λ o. refl) h (λ k l. switch-off-low 64 v t k h l)
 
 pub with-below : (v t c : ℕ) → t < c → c ≤ 64 → v < 2 ^ c → bitOr v (shifted 64 t) < 2 ^ c
 with-below v t c h s l = rw (shifted-is 64 t (omega arith)) (or-lt c v (2 ^ t) l (pow-lt h))
@@ -175,12 +175,12 @@ pub empty-vector : (v : ℕ) → highest 64 (in-vector v) ≡ None → (k : ℕ)
 empty-vector v e k = ⊎-elim (λ (y : in-vector v k ≡ true). highest-empties 64 (in-vector v) e k (in-small v k y)) (λ f. f) (cases-bool (in-vector v k))
 
 -- a vector is less without one of its tasks
-pub without-less : (v t : ℕ) → v < 2 ^ 64 → in-vector v t ≡ true → bitAnd v (18446744073709551615 - shifted 64 t) < v
-without-less v t big y =
+pub without-less : (v t : ℕ) → in-vector v t ≡ true → bitAnd v (18446744073709551615 - shifted 64 t) < v
+without-less v t y =
     let w = bitAnd v (18446744073709551615 - shifted 64 t) in
     ⊎-elim
     (λ (q : w ≡ v).
-    let e : in-vector w t ≡ without t (in-vector v) t = ap (λ (f : ℕ → Bool). f t) (code-without v t big (in-small v t y)) in
+    let e : in-vector w t ≡ without t (in-vector v) t = ap (λ (f : ℕ → Bool). f t) (code-without v t (in-small v t y)) in
     absurd (false≢true (sym (e ∙ ap (λ b. not b && in-vector v t) (eq-eqb t t refl)) ∙ ap (λ x. in-vector x t) q ∙ y)))
     (λ (ne : w ≡ v → ⊥). omega (arith, and-le-l v (18446744073709551615 - shifted 64 t), ne))
     (cases-eq w v)

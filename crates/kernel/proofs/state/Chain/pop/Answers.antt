@@ -1,4 +1,4 @@
-use Prim.Native.Nat.{ℕ, _-_, _^_, _<_}
+use Prim.Native.Nat.{ℕ, _-_, _<_}
 use mathlib.Core.Path.{_≡_, ap, sym, _∙_}
 use mathlib.Core.Bool.{false}
 use mathlib.Core.List.{_∷_}
@@ -15,12 +15,16 @@ ghost-self c =
     let f : ℕ → ℕ = λ i. getD (s .tasks) i 0 in
     let n : ℕ = s .depth - 1 in
     let some : 0 < s .depth = c .if-depth-gt0 .taken in
-    let big : s .started < 2 ^ 64 = omega arith in
-    let apart : among (listed (s .tasks) n) (f n) ≡ false = not-among f n (f n) (λ i l e. let r = s .rising i n l (omega arith) in omega arith) in
-    (omega arith,
-     ((λ i l. s .tall i (omega arith)),
-     ((λ i j a b. s .rising i j a (omega arith)),
-     (noted-less (s .started) (f n) (listed (s .tasks) n) big (s .tall n (omega arith) .1) apart (λ t. s .noted t ∙ ap (λ xs. among xs t) (split f (s .depth) some)), tt))))
+    let apart : among (listed (s .tasks) n) (f n) ≡ false = not-among f n (f n) (λ i l e. let r = s .rising i n l (omega arith) in omega arith) in (
+      omega arith,
+      (
+        (λ i l. s .tall i (omega arith)),
+        (
+          (λ i j a b. s .rising i j a (omega arith)),
+          (noted-less (s .started) (f n) (listed (s .tasks) n) (s .tall n (omega arith) .1) apart (λ t. s .noted t ∙ ap (λ xs. among xs t) (split f (s .depth) some)), tt),
+        ),
+      ),
+    )
 
 pub returns-then-depth-gt0 : need.returns-then-depth-gt0
 returns-then-depth-gt0 c = let s = c .args .self .now in tail-is (λ i. getD (s .tasks) i 0) (s .depth) (c .if-depth-gt0 .taken)

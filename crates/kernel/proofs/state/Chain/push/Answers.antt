@@ -25,11 +25,16 @@ ghost-self c =
     let small : w < 64 = c .pre .small in
     let long : s .depth < length (s .tasks) = search needs in
     let here : g (s .depth) ≡ w = written-here (s .tasks) (s .depth) w 0 long in
-    let before : (i : ℕ) → i < s .depth → g i ≡ f i = written-before (s .tasks) (s .depth) w 0 in
-    (omega arith,
-     (one-more (λ i. (i ≤ g i) × (g i < 64)) (s .depth) (λ i l. (omega (arith, before i l, s .tall i l .0), omega (arith, before i l, s .tall i l .1))) (omega arith, omega arith),
-     (rising-push f g (s .depth) w before here (over-all f (s .depth) w (s .rising) (c .pre .above)) (s .rising),
-     ((λ t. noted-more (s .started) w (listed (s .tasks) (s .depth)) small (s .noted) t ∙ ap (λ xs. among xs t) (sym (listed-push s w long))), tt))))
+    let before : (i : ℕ) → i < s .depth → g i ≡ f i = written-before (s .tasks) (s .depth) w 0 in (
+      omega arith,
+      (
+        one-more (λ i. (i ≤ g i) × (g i < 64)) (s .depth) (λ i l. (omega (arith, before i l, s .tall i l .0), omega (arith, before i l, s .tall i l .1))) (omega arith, omega arith),
+        (
+          rising-push f g (s .depth) w before here (over-all f (s .depth) w (s .rising) (c .pre .above)) (s .rising),
+          ((λ t. noted-more (s .started) w (listed (s .tasks) (s .depth)) small (s .noted) t ∙ ap (λ xs. among xs t) (sym (listed-push s w long))), tt),
+        ),
+      ),
+    )
 
 pub returns : need.returns
 returns c =

@@ -29,10 +29,13 @@ ghost-self c =
     let s = c .args .self .now in
     let p = c .push .ensures in
     let lock : HeldLock = record { resource = c .args .r; holder = c .args .t; level = c .higher-level .result } in
-    let level = c .higher-level .ensures ∙ ap₂ (λ (a b : Option ℕ). higher a b) (c .ceiling .ensures) (c .system-ceiling .ensures) ∙ ceiling-push (s .plan) (c .args .r) (c .args .t) (held-in (s .held)) in
-    ((λ e. absurd (both-ways (present (s .plan)) e (c .pre .planned))),
-     (placed-push (s .held .locks) (s .held .count) lock (p .room) (chain-in (s .chain)) _ _ (p .locks) (p .count) (head-among (chain-in (s .chain)) (c .args .t) (c .pre .runs)) (s .placed),
-     (levels-push (s .held .locks) (s .held .count) lock (p .room) (s .plan) _ _ (p .locks) (p .count) level (s .levels), tt)))
+    let level = c .higher-level .ensures ∙ ap₂ (λ (a b : Option ℕ). higher a b) (c .ceiling .ensures) (c .system-ceiling .ensures) ∙ ceiling-push (s .plan) (c .args .r) (c .args .t) (held-in (s .held)) in (
+      (λ e. absurd (both-ways (present (s .plan)) e (c .pre .planned))),
+      (
+        placed-push (s .held .locks) (s .held .count) lock (p .room) (chain-in (s .chain)) _ _ (p .locks) (p .count) (head-among (chain-in (s .chain)) (c .args .t) (c .pre .runs)) (s .placed),
+        (levels-push (s .held .locks) (s .held .count) lock (p .room) (s .plan) _ _ (p .locks) (p .count) level (s .levels), tt),
+      ),
+    )
 
 pub returns : need.returns
 returns c =

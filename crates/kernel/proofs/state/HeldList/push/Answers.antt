@@ -37,12 +37,19 @@ ghost-self c =
     let before : (i : ℕ) → i < n → g i ≡ f i = written-before (s .locks) n lock no-lock in
     let small : lock .resource < 32 = c .pre .small in
     let more : resources-of (set (s .locks) n lock) (n + 1) ≡ lock .resource ∷ resources-of (s .locks) n
-        = rw add-one (pushed (λ i. f i .resource) (λ i. g i .resource) n (lock .resource) (λ i l. ap (λ x. x .resource) (before i l)) (ap (λ x. x .resource) here)) in
-    (omega arith,
-     (one-more (λ i. g i .resource < 32) n (λ i l. omega (arith, ap (λ x. x .resource) (before i l), s .named i l)) (omega (arith, ap (λ x. x .resource) here)),
-     (apart-push (λ i. f i .resource) (λ i. g i .resource) n (lock .resource) (λ i l. ap (λ x. x .resource) (before i l)) (ap (λ x. x .resource) here) (free s (lock .resource) (c .pre .free)) (s .apart),
-     (nested-push (λ i. f i .holder) (λ i. g i .holder) n (lock .holder) (λ i l. ap (λ x. x .holder) (before i l)) (ap (λ x. x .holder) here) (c .pre .above) (s .nested),
-     ((λ r. noted-more (s .taken) (lock .resource) (resources-of (s .locks) n) (omega arith) (s .noted) r ∙ ap (λ xs. among xs r) (sym more)), tt)))))
+    = rw add-one (pushed (λ i. f i .resource) (λ i. g i .resource) n (lock .resource) (λ i l. ap (λ x. x .resource) (before i l)) (ap (λ x. x .resource) here)) in (
+      omega arith,
+      (
+        one-more (λ i. g i .resource < 32) n (λ i l. omega (arith, ap (λ x. x .resource) (before i l), s .named i l)) (omega (arith, ap (λ x. x .resource) here)),
+        (
+          apart-push (λ i. f i .resource) (λ i. g i .resource) n (lock .resource) (λ i l. ap (λ x. x .resource) (before i l)) (ap (λ x. x .resource) here) (free s (lock .resource) (c .pre .free)) (s .apart),
+          (
+            nested-push (λ i. f i .holder) (λ i. g i .holder) n (lock .holder) (λ i l. ap (λ x. x .holder) (before i l)) (ap (λ x. x .holder) here) (c .pre .above) (s .nested),
+            ((λ r. noted-more (s .taken) (lock .resource) (resources-of (s .locks) n) (omega arith) (s .noted) r ∙ ap (λ xs. among xs r) (sym more)), tt),
+          ),
+        ),
+      ),
+    )
 
 pub returns : need.returns
 returns c =

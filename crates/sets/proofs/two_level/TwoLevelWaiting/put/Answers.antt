@@ -17,12 +17,14 @@ ghost-self c =
     let t = c .args .t in
     let long : row t < length (s .rows) = search needs in
     let x = c .switched-on .result in
-    let lit : on x (place t) ≡ true = c .switched-on .ensures (place t) ∙ or-left (eqb (place t) (place t)) _ (eq-eqb (place t) (place t) refl) in
-    (tied-set (s .group) (c .switched-on-self .result) (s .rows) (row t) x true long
-        (not-from-false (eqb x 0) (on-some x (place t) lit))
-        (λ j ne. c .switched-on-self .ensures j ∙ ap (λ b. b || on (s .group) j) (ne-eqb j (row t) ne))
-        (c .switched-on-self .ensures (row t) ∙ or-left (eqb (row t) (row t)) _ (eq-eqb (row t) (row t) refl))
-        (s .tied), tt)
+    let lit : on x (place t) ≡ true = c .switched-on .ensures (place t) ∙ or-left (eqb (place t) (place t)) _ (eq-eqb (place t) (place t) refl) in (
+      tied-set (s .group) (c .switched-on-self .result) (s .rows) (row t) x true long
+          (not-from-false (eqb x 0) (on-some x (place t) lit))
+          (λ j ne. c .switched-on-self .ensures j ∙ ap (λ b. b || on (s .group) j) (ne-eqb j (row t) ne))
+          (c .switched-on-self .ensures (row t) ∙ or-left (eqb (row t) (row t)) _ (eq-eqb (row t) (row t) refl))
+          (s .tied),
+      tt,
+    )
 
 pub returns-then-t-lt64 : need.returns-then-t-lt64
 returns-then-t-lt64 c =

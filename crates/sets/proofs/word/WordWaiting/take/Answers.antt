@@ -2,7 +2,6 @@ use mathlib.Core.Path.{refl, sym, _∙_}
 use native.Mathlib.Omega.{arith}
 use borrow.Author.Needs.{needs}
 use Rattle.vectors.specs.Vectors.{in-vector}
-use lib.Pow.{pow-mono}
 use Rattle.std.proofs.shelf.Tests.{lt-ltb, le-ltb}
 use Rattle.vectors.proofs.Vectors.{code-without, without-below, without-none, in-past}
 use Rattle.sets.proofs.word.WordWaiting.take.Needs as need
@@ -13,7 +12,7 @@ ghost-self c = let s = c .args .self .now in (s .few, (without-below (s .word) _
 pub returns-then-t-self : need.returns-then-t-self
 returns-then-t-self c =
     let s = c .args .self .now in
-    record { said = sym (lt-ltb (c .args .t) (s .size) (c .if-t-self .taken)); kept = refl; after = code-without (s .word) (c .args .t) (omega (arith, pow-mono (s .few))) (omega arith) }
+    record { said = sym (lt-ltb (c .args .t) (s .size) (c .if-t-self .taken)); kept = refl; after = code-without (s .word) (c .args .t) (omega arith) }
 
 pub returns-else-t-self : need.returns-else-t-self
 returns-else-t-self c =
