@@ -39,7 +39,7 @@ use Rattle.grammar.specs.Slots.{lexed, admits, expected, followed}
 use Rattle.grammar.specs.Items.{if-name, named, if-number, numeral-at, heading, template, step, declared-at, object-at, referred-at, reference-at, attribute-at, judged-at, item-at}
 use Rattle.letters.specs.Extents.{extent, end-from, place-from}
 use Rattle.grammar.proofs.Through.{through, lexed-ok}
-use Rattle.letters.proofs.Named.{lex-goes}
+use Rattle.letters.proofs.Named.{Named, lex-goes}
 use Rattle.letters.proofs.Near.{Near, near-cut}
 use Rattle.letters.proofs.Local.{Whole, lex-whole, near-same}
 use Rattle.grammar.proofs.Agrees.{here, Agrees, followed-agrees}
@@ -65,18 +65,19 @@ module _ (text : List ℕ) where
       let g = lex-goes text pos t l .1 e in
       (w .1 .0, w .1 .1, w .0, g .0, g .1)
 
-  as-name : (t u : Token) (x : What) → if-name t x ≡ Ok u → (t ≡ u) × (is-end x ≡ false)
-  as-name t u what.Name h = (cc, refl)
+  as-name : (t u : Token) (x : What) → if-name t x ≡ Ok u → (t ≡ u) × (is-end x ≡ false) × (is-name x ≡ true)
+  as-name t u what.Name h = (cc, refl, refl)
   as-name t u (what.Number n) h = let z : _≡_ {A = ℕ} 0 1 = cc in absurd (omega arith)
   as-name t u what.Quoted h = let z : _≡_ {A = ℕ} 0 1 = cc in absurd (omega arith)
   as-name t u (what.Mark c) h = let z : _≡_ {A = ℕ} 0 1 = cc in absurd (omega arith)
   as-name t u what.End h = let z : _≡_ {A = ℕ} 0 1 = cc in absurd (omega arith)
 
-  named-sits : (pos : ℕ) (u : Token) → named text pos ≡ Ok u → Sits pos u
+  named-sits : (pos : ℕ) (u : Token) → named text pos ≡ Ok u → Sits pos u × Named (bytes-of text u)
   named-sits pos u h =
       let x = through (lexed text pos) (λ t. if-name t (t .what)) u h in
       let y = as-name (x .0) u (x .0 .what) (x .2) in
-      subst (Sits pos) (y .0) (sits pos (x .0) (x .1) (y .1))
+      let z = lex-goes text pos (x .0) (lexed-ok (token-at text pos) (x .0) (x .1)) .2 (y .2) in
+      (subst (Sits pos) (y .0) (sits pos (x .0) (x .1) (y .1)), subst (λ t. Named (bytes-of text t)) (y .0) z)
 
   as-numeral : (t : Token) (u : ℕ × Token) (x : What) → if-number t x ≡ Ok u → (t ≡ u .1) × (is-end x ≡ false)
   as-numeral t u (what.Number m) h =
@@ -97,10 +98,10 @@ module _ (text : List ℕ) where
   followed-on ss pos p h = subst (λ r. Agrees text text 0 (near-self 0 text) (here text text 0 (near-self 0 text)) pos r (followed text ss pos)) h (followed-agrees text text 0 (near-self 0 text) ss pos) .0
 
   abbrev pub Item-sits : Item → ℕ → ℕ → Type 0
-  Item-sits (item.Declares k t) pos end = Sits pos t × (t .end ≡ end)
+  Item-sits (item.Declares k t) pos end = Sits pos t × (t .end ≡ end) × Named (bytes-of text t)
   Item-sits (item.Priority n t) pos end = Sits pos t × (t .end ≡ end)
   Item-sits (item.Activation n t) pos end = Sits pos t × (t .end ≡ end)
-  Item-sits (item.Refers k t) pos end = Sits pos t × (t .end ≡ end)
+  Item-sits (item.Refers k t) pos end = Sits pos t × (t .end ≡ end) × Named (bytes-of text t)
   Item-sits item.Closes pos end = (pos < end) × (end ≤ length text)
   Item-sits item.End pos end = Unit {0}
 
@@ -108,10 +109,10 @@ module _ (text : List ℕ) where
   sits-less pos p t l h = (h .0, h .1, (let a = h .2 in omega arith), (let a = h .3 in omega arith), h .4)
 
   item-less : (pos p end : ℕ) (i : Item) → pos ≤ p → Item-sits i p end → Item-sits i pos end
-  item-less pos p end (item.Declares k t) l h = (sits-less pos p t l (h .0), h .1)
+  item-less pos p end (item.Declares k t) l h = (sits-less pos p t l (h .0), h .1, h .2)
   item-less pos p end (item.Priority n t) l h = (sits-less pos p t l (h .0), h .1)
   item-less pos p end (item.Activation n t) l h = (sits-less pos p t l (h .0), h .1)
-  item-less pos p end (item.Refers k t) l h = (sits-less pos p t l (h .0), h .1)
+  item-less pos p end (item.Refers k t) l h = (sits-less pos p t l (h .0), h .1, h .2)
   item-less pos p end item.Closes l h = ((let a = h .0 in omega arith), h .1)
   item-less pos p end item.End l h = tt
 
@@ -126,7 +127,7 @@ module _ (text : List ℕ) where
   declared-sits p t (Some k) st l h =
       let x = through (named text (t .end)) (λ n. step (item.Declares k n) (state.Declared k) (n .end)) st h in
       let e : record { item = item.Declares k (x .0); state = state.Declared k; pos = x .0 .end } ≡ st = cc in
-      subst (λ s. Step-sits p s) e (sits-less p (t .end) (x .0) l (named-sits (t .end) (x .0) (x .1)), refl)
+      subst (λ s. Step-sits p s) e (let n = named-sits (t .end) (x .0) (x .1) in (sits-less p (t .end) (x .0) l (n .0), refl, n .1))
 
   object-sits : (p : ℕ) (st : Step) → object-at text p ≡ Ok st → Step-sits p st
   object-sits p st h =
@@ -158,7 +159,7 @@ module _ (text : List ℕ) where
       let y = through (named text (x .0)) (λ n. step (item.Refers k n) state.Referred (n .end)) st (x .2) in
       let up = followed-on (slot.Mark marks.Equals ∷ []) (t .end) (x .0) (ap (λ r. and-then r (λ q. followed text [] q)) (x .1)) in
       let e : record { item = item.Refers k (y .0); state = state.Referred; pos = y .0 .end } ≡ st = cc in
-      subst (λ s. Step-sits p s) e (sits-less p (x .0) (y .0) (omega arith) (named-sits (x .0) (y .0) (y .1)), refl)
+      subst (λ s. Step-sits p s) e (let n = named-sits (x .0) (y .0) (y .1) in (sits-less p (x .0) (y .0) (omega arith) (n .0), refl, n .1))
 
   reference-sits : (p : ℕ) (t : Token) (k : Option Kind) (st : Step) → p ≤ t .end → reference-at text t k ≡ Ok st → Step-sits p st
   reference-sits p t None st l h = let z : _≡_ {A = ℕ} 0 1 = cc in absurd (omega arith)
