@@ -1,7 +1,7 @@
 -- The held list beside the chain and the plan: holders have started, and each lock keeps its system ceiling.
 use Prim.Native.Nat.{ℕ, zero, suc, _+_, _-_, _<_, _≤_}
 use mathlib.Core.Path.{_≡_, refl, sym, ap, ap₂, _∙_, subst}
-use mathlib.Core.Bool.{Bool, true, false, _||_}
+use mathlib.Core.Bool.{true, false}
 use mathlib.Core.List.{List, [], _∷_}
 use mathlib.Core.Logic.{⊎-elim}
 use native.Mathlib.Omega.{arith}
@@ -10,7 +10,7 @@ use lib.Dec.{eqb}
 use lib.ListN.{length, getD, set}
 use Rattle.std.specs.declared.option.Option.{Option}
 use Rattle.std.specs.declared.option.Option.the-variants.{Some, None}
-use Rattle.std.proofs.shelf.Tests.{both-ways, cases-eq, cases-bool, eq-eqb, ne-eqb, eqb-true, or-left, or-right, or-from, or-cases}
+use Rattle.std.proofs.shelf.Tests.{both-ways, cases-eq, eq-eqb, ne-eqb, eqb-true, or-left, or-right, or-from, or-cases}
 use Rattle.plan.specs.declared.record.Plan.{Plan}
 use Rattle.machine.specs.Schedules.{head, tail, among, holds-any, higher, system-ceiling-under}
 use Rattle.machine.specs.Refusals.{same, holds-some}

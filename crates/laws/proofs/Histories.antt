@@ -8,7 +8,7 @@ use Rattle.machine.specs.declared.Call.{Call}
 use Rattle.machine.specs.Machine.{Machine, Answer, fresh, step, answer, run}
 use Rattle.machine.specs.History.{History}
 use Rattle.machine.specs.Laws.{Lawful, record-run, history, Stays-lawful}
-use Rattle.laws.proofs.All.{all-lawful}
+use Rattle.laws.proofs.AllLawful.{all-lawful}
 
 pub run-more : (cs : List Call) (c : Call) (m : Machine) → run (cs ++ (c ∷ [])) m ≡ step c (run cs m)
 run-more [] c m = refl

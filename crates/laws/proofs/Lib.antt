@@ -1,10 +1,11 @@
 pub mod Sets
 pub mod Lists
 pub mod Busy
-pub mod Sound
-pub mod Words
-pub mod Runs
-pub mod Blocking
-pub mod Table
-pub mod All
+pub mod Invariant
+pub mod Allowances
+pub mod Agreement
+pub mod Exclusion
+pub mod BlockedOnce
+pub mod ExactTable
+pub mod AllLawful
 pub mod Histories

@@ -5,7 +5,7 @@ use mathlib.Core.List.{List, [], _∷_, _++_}
 use lib.ListN.{length, getD, take}
 use Rattle.std.proofs.shelf.Lists.{take-more}
 use Rattle.machine.specs.declared.Call.{Call}
-use Rattle.machine.specs.Machine.{Machine, Answer, step, answer, run, answers}
+use Rattle.machine.specs.Machine.{Machine, step, answer, run, answers}
 use Rattle.machine.specs.History.{History}
 use Rattle.machine.specs.Laws.{record-run, paired}
 

@@ -1,6 +1,6 @@
 -- The run that shows an entry of the table.
-use Prim.Native.Nat.{ℕ, _<_, _^_}
-use mathlib.Core.Path.{_≡_, refl, sym, ap, ap₂, _∙_}
+use Prim.Native.Nat.{ℕ, _<_}
+use mathlib.Core.Path.{_≡_, ap₂, _∙_}
 use mathlib.Core.Bool.{Bool, true, _&&_}
 use native.Mathlib.Omega.{arith}
 use lib.Dec.{ltb}
@@ -13,7 +13,7 @@ use Rattle.machine.specs.History.{accepted}
 use Rattle.machine.specs.Laws.{Set}
 use Rattle.vectors.proofs.Bits.{shifted, shifted-is}
 use Rattle.vectors.proofs.Vectors.{in-small}
-use Rattle.laws.proofs.Table.{shown}
+use Rattle.laws.proofs.ExactTable.{shown}
 use Rattle.runs.specs.Entries.{Shows}
 
 -- with the vectors as code writes them

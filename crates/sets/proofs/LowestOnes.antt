@@ -7,13 +7,13 @@ use mathlib.Core.Logic.{⊎-elim}
 use native.Mathlib.Nat.{pow-suc}
 use native.Mathlib.Omega.{arith}
 use lib.Dec.{T, eqb}
-use lib.ListN.{length, getD}
+use lib.ListN.{getD}
 use lib.Pow.{mod-pow-add}
 use Rattle.std.proofs.shelf.Tests.{cases-eq, ne-eqb, eqb-true, eqb-false, false≢true}
 use Rattle.vectors.specs.Vectors.{on}
 use Rattle.vectors.proofs.Bits.{bit, bit-half, bit-first}
 use Rattle.sets.specs.Lowest.{zeros-below, lowest-place}
-use Rattle.sets.proofs.Table.{every, at}
+use Rattle.sets.proofs.Table.{at}
 
 T-true : (b : Bool) → T b → b ≡ true
 T-true true t = refl

@@ -1,5 +1,5 @@
 -- The rows of a two-level set, and the group byte that is tied to them.
-use Prim.Native.Nat.{ℕ, suc, _+_, _-_, _*_, _<_, _≤_}
+use Prim.Native.Nat.{ℕ, _+_, _-_, _*_, _<_, _≤_}
 use mathlib.Core.Path.{_≡_, sym, ap, subst, _∙_}
 use mathlib.Core.Bool.{Bool, true, false, not}
 use mathlib.Core.List.{List}
@@ -12,7 +12,7 @@ use Rattle.std.specs.declared.option.Option.the-variants.{Some, None}
 use Rattle.std.proofs.shelf.Tests.{cases-eq, lt-ltb, eq-eqb, ne-eqb, and-from, and-right, not-true, not-false, both-ways, eqb-true}
 use Rattle.std.proofs.shelf.Ways.{tells}
 use Rattle.vectors.specs.Vectors.{on, highest}
-use Rattle.vectors.proofs.Bits.{bit, bit-zero, on-zero}
+use Rattle.vectors.proofs.Bits.{bit, bit-zero}
 use Rattle.vectors.proofs.Vectors.{changed-below, highest-is, highest-none}
 use Rattle.sets.specs.Rows.{row, place, in-rows}
 use Rattle.sets.specs.Lowest.{lowest-place}

@@ -1,8 +1,8 @@
 -- Task vectors in code: one bit set, one bit cleared, the highest.
-use Prim.Native.Nat.{ℕ, zero, suc, _+_, _-_, _*_, _/_, _%_, _^_, _<_, _≤_, min, max}
+use Prim.Native.Nat.{ℕ, zero, suc, _+_, _-_, _*_, _/_, _%_, _^_, _<_, _≤_, min}
 use mathlib.Core.Path.{_≡_, refl, sym, ap, _∙_, subst, fun-ext}
-use mathlib.Core.Bool.{Bool, true, false, _&&_, _||_, not, cond}
-use mathlib.Core.Logic.{_⊎_, inl, inr, ⊎-elim}
+use mathlib.Core.Bool.{Bool, true, false, _&&_, _||_, not}
+use mathlib.Core.Logic.{_⊎_, ⊎-elim}
 use native.Mathlib.Omega.{arith}
 use lib.Dec.{eqb, ltb}
 use lib.Bits.{bitAnd, bitOr, or-lt, and-le-l}
@@ -10,7 +10,7 @@ use lib.Count.{leadingZeros, leading-top}
 use lib.Pow.{pow-pos, pow-lt, pow-mono, shr-lt, split}
 use Rattle.std.specs.declared.option.Option.{Option}
 use Rattle.std.specs.declared.option.Option.the-variants.{Some, None}
-use Rattle.std.proofs.shelf.Tests.{cases-eq, cases-lt, lt-ltb, le-ltb, eq-eqb, ne-eqb, and-from, and-parts, ltb-true, eqb-true, eqb-false, cases-bool, cond-true, cond-false, or-parts, or-from, not-false, not-true, or-cases, false≢true}
+use Rattle.std.proofs.shelf.Tests.{cases-eq, cases-lt, lt-ltb, le-ltb, eq-eqb, ne-eqb, and-parts, ltb-true, eqb-true, eqb-false, cases-bool, cond-true, cond-false, or-parts, or-from, not-false, not-true, or-cases, false≢true}
 use Rattle.std.proofs.shelf.Ways.{tells}
 use Rattle.vectors.specs.Vectors.{on, in-vector, vector-of, with, without, highest, some, strays}
 use native.Mathlib.Nat.{pow-suc, mod-lt}

@@ -1,10 +1,10 @@
 -- The plan of a small yard: tasks 2, 5 and 7, of which 2 and 5 use resource 0, and no event.
 use Prim.Native.Nat.{ℕ, zero, suc, _≤_}
-use mathlib.Core.Path.{_≡_, refl}
+use mathlib.Core.Path.{refl}
 use mathlib.Core.List.{List, _∷_}
 use native.Mathlib.Omega.{arith}
 use lib.Dec.{lit≤}
-use lib.ListN.{getD, replicate}
+use lib.ListN.{replicate}
 use Rattle.vectors.specs.Vectors.{in-vector, some}
 use Rattle.vectors.proofs.Vectors.{none-strays}
 use Rattle.plan.specs.declared.record.Plan.{Plan}

@@ -1,4 +1,4 @@
-use mathlib.Core.Path.{_≡_, sym, ap, _∙_}
+use mathlib.Core.Path.{sym, ap, _∙_}
 use Rattle.machine.specs.declared.Call.the-variants.{Install, Release, Lock}
 use Rattle.machine.specs.Machine.{Machine, Answer, step, answer}
 use Rattle.machine.specs.History.{accepted}

@@ -8,7 +8,7 @@ use Rattle.std.specs.Of.Vec.{vec-items}
 use Rattle.machine.specs.declared.Call.{Call}
 use Rattle.machine.specs.Machine.{Machine, Answer, step, answer, fresh, run, answers}
 use Rattle.machine.specs.Laws.{history, paired, Lawful}
-use Rattle.laws.proofs.All.{all-lawful}
+use Rattle.laws.proofs.AllLawful.{all-lawful}
 use Rattle.kernel.specs.Meaning.{meaning}
 use Rattle.laws.proofs.Histories.{run-next}
 use Rattle.runs.proofs.Answered.{answers-next, paired-all}

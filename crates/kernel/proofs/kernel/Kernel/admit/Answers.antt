@@ -1,8 +1,8 @@
 use Prim.Native.Nat.{ℕ}
-use mathlib.Core.Path.{_≡_, sym, ap, ap₂, _∙_}
-use mathlib.Core.Bool.{Bool, true, false, cond}
+use mathlib.Core.Path.{sym, ap, ap₂, _∙_}
+use mathlib.Core.Bool.{Bool, cond}
 use lib.Dec.{ltb}
-use Rattle.vectors.specs.Vectors.{in-vector, with, without}
+use Rattle.vectors.specs.Vectors.{in-vector, with}
 use Rattle.machine.specs.Schedules.{among}
 use Rattle.vectors.proofs.Vectors.{highest-tells, code-without, without-less, empty-vector}
 use Rattle.kernel.specs.Meaning.{schedule-of}

@@ -1,5 +1,5 @@
-use Prim.Native.Nat.{ℕ, suc, _+_, _<_, _≤_}
-use mathlib.Core.Path.{_≡_, ap, sym, subst, _∙_}
+use Prim.Native.Nat.{ℕ, _+_, _<_, _≤_}
+use mathlib.Core.Path.{_≡_, ap, sym, _∙_}
 use mathlib.Core.List.{_∷_}
 use lib.ListN.{length, getD, set}
 use native.Mathlib.Omega.{arith}
@@ -7,7 +7,7 @@ use native.Mathlib.Numerals.{add-one}
 use borrow.Author.Needs.{needs}
 use Rattle.machine.specs.Schedules.{among}
 use Rattle.kernel.specs.declared.state.Chain.{Chain}
-use Rattle.kernel.specs.Lists.{newest-first, listed}
+use Rattle.kernel.specs.Lists.{listed}
 use Rattle.kernel.proofs.Lists.{pushed, written-here, written-before, one-more, noted-more, over-all, depth-le, rising-push}
 use Rattle.kernel.proofs.state.Chain.push.Needs as need
 

@@ -1,5 +1,4 @@
-use Prim.Native.Nat.{ℕ, _<_}
-use mathlib.Core.Path.{_≡_, ap, _∙_}
+use mathlib.Core.Path.{ap, _∙_}
 use lib.ListN.{getD}
 use Rattle.machine.specs.Schedules.{among}
 use Rattle.kernel.specs.Lists.{no-lock}

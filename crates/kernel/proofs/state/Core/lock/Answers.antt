@@ -1,12 +1,9 @@
-use Prim.Native.Nat.{ℕ, _<_, _≤_}
-use mathlib.Core.Path.{_≡_, refl, sym, ap, ap₂, _∙_}
-use mathlib.Core.Bool.{true}
-use mathlib.Core.List.{_∷_}
+use Prim.Native.Nat.{ℕ}
+use mathlib.Core.Path.{refl, ap₂, _∙_}
 use lib.ListN.{getD}
 use Rattle.std.specs.declared.option.Option.{Option}
-use Rattle.std.specs.declared.option.Option.the-variants.{Some}
 use Rattle.std.proofs.shelf.Tests.{both-ways}
-use Rattle.machine.specs.Schedules.{head, among, higher}
+use Rattle.machine.specs.Schedules.{higher}
 use Rattle.machine.specs.Refusals.{present}
 use Rattle.laws.proofs.Lists.{head-among}
 use Rattle.kernel.specs.declared.held_lock.HeldLock.{HeldLock}

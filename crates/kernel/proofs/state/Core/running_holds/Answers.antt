@@ -1,6 +1,5 @@
 use Prim.Native.Nat.{ℕ, zero, suc, _<_, _≤_}
 use mathlib.Core.Path.{_≡_, sym, ap, _∙_}
-use mathlib.Core.Bool.{Bool}
 use mathlib.Core.List.{List}
 use native.Mathlib.Omega.{arith}
 use lib.Dec.{eqb}
@@ -8,9 +7,7 @@ use lib.ListN.{getD}
 use Rattle.std.specs.declared.option.Option.the-variants.{Some}
 use Rattle.machine.specs.Schedules.{head}
 use Rattle.machine.specs.Refusals.{holds-some}
-use Rattle.laws.proofs.Sets.{some-none}
 use Rattle.kernel.specs.declared.held_lock.HeldLock.{HeldLock}
-use Rattle.kernel.specs.declared.state.Core.{Core}
 use Rattle.kernel.specs.Lists.{no-lock, entry-of, held-of}
 use Rattle.kernel.specs.Parts.{chain-in, held-in}
 use Rattle.kernel.specs.Locks.{newest-lock}

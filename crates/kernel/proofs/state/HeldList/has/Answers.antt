@@ -1,5 +1,4 @@
-use mathlib.Core.Path.{_≡_, sym, _∙_}
-use mathlib.Core.Bool.{_&&_}
+use mathlib.Core.Path.{sym, _∙_}
 use lib.ListN.{getD}
 use Rattle.std.proofs.shelf.Tests.{le-ltb, and-left}
 use Rattle.vectors.specs.Vectors.{on}

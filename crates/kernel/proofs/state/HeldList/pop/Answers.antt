@@ -1,5 +1,5 @@
 use Prim.Native.Nat.{ℕ, _-_, _<_}
-use mathlib.Core.Path.{_≡_, ap, sym, _∙_}
+use mathlib.Core.Path.{_≡_, ap, _∙_}
 use mathlib.Core.Bool.{false}
 use lib.ListN.{getD}
 use native.Mathlib.Omega.{arith}

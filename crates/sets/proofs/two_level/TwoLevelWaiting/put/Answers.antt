@@ -1,9 +1,8 @@
-use Prim.Native.Nat.{ℕ, _<_}
+use Prim.Native.Nat.{_<_}
 use mathlib.Core.Path.{_≡_, refl, sym, ap, _∙_}
-use mathlib.Core.Bool.{Bool, true, not, _||_}
+use mathlib.Core.Bool.{true, _||_}
 use lib.Dec.{eqb}
-use lib.ListN.{length, getD}
-use native.Mathlib.Omega.{arith}
+use lib.ListN.{length}
 use borrow.Author.Needs.{needs}
 use Rattle.std.proofs.shelf.Tests.{lt-ltb, cond-true, eq-eqb, ne-eqb, or-left, not-from-false}
 use Rattle.vectors.specs.Vectors.{on}

@@ -1,6 +1,5 @@
 use mathlib.Core.Path.{refl, sym, _∙_}
 use native.Mathlib.Omega.{arith}
-use borrow.Author.Needs.{needs}
 use Rattle.std.proofs.shelf.Tests.{lt-ltb, cond-true}
 use Rattle.vectors.proofs.Vectors.{code-with, with-below}
 use Rattle.sets.proofs.word.WordWaiting.put.Needs as need

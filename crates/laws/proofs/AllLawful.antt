@@ -1,8 +1,8 @@
 -- Every run is lawful.
 use Rattle.machine.specs.Laws.{history, All-lawful}
-use Rattle.laws.proofs.Runs.{from-inv, history-from, exclusive}
-use Rattle.laws.proofs.Blocking.{blocked-once}
-use Rattle.laws.proofs.Table.{exact}
+use Rattle.laws.proofs.Exclusion.{from-inv, history-from, exclusive}
+use Rattle.laws.proofs.BlockedOnce.{blocked-once}
+use Rattle.laws.proofs.ExactTable.{exact}
 
 pub all-lawful : All-lawful
 all-lawful c w s cs =

@@ -1,4 +1,6 @@
--- From its release to its exit a task is held up by one lower task at most, over one resource: law (b).
+-- From its release to its exit a task is held up by one lower task at most, over one resource. Since its release either the task
+-- is free, and no lower task runs; or one lower task holds the oldest lock that reaches it, and no other lower task runs until that
+-- lock is undone.
 use mathlib.Core.Path.{_≡_, refl, sym, ap, subst, _∙_}
 use mathlib.Core.Logic.{_⊎_, inl, inr, ⊎-elim}
 use mathlib.Core.Bool.{Bool, true, false, cond}
@@ -17,13 +19,13 @@ use Rattle.machine.specs.Schedules.{Schedule, tail, among, running, holder, mov
 use Rattle.machine.specs.Machine.{Machine, Answer, does, answer, answered, step, stepped}
 use Rattle.laws.proofs.Busy.{busy, busy-under}
 use Rattle.machine.specs.Refusals.{refusal}
-use Rattle.machine.specs.History.{Entry, History, runs, plan-of, holder-of, unfinished, begins, ends, Held-since, ceiling-under, Holds-up}
+use Rattle.machine.specs.History.{Entry, History, runs, holder-of, unfinished, begins, ends, Held-since, ceiling-under, Holds-up}
 use Rattle.machine.specs.Laws.{No-exit, Only, Blocked-once}
 use Rattle.laws.proofs.Sets.{some-none}
 use Rattle.laws.proofs.Lists.{reaches-down, top, head-among, Single, holder-cases, holder-here, holder-older, holder-tail, under-ceiling, under-cases}
-use Rattle.laws.proofs.Sound.{Allowed, blocked}
-use Rattle.laws.proofs.Words.{allowed, held-kept, regrip, wait-goes-on, wait-not-new, wait-new, wait-holder, wait-plan, Inv, unfinished-is, inv-step, Ready, ready}
-use Rattle.laws.proofs.Runs.{From, from-inv, Under-plan, under-plan}
+use Rattle.laws.proofs.Invariant.{Allowed, blocked}
+use Rattle.laws.proofs.Agreement.{allowed, held-kept, regrip, wait-goes-on, wait-not-new, wait-new, wait-holder, wait-plan, Inv, unfinished-is, inv-step, Ready, ready}
+use Rattle.laws.proofs.Exclusion.{From, from-inv, Under-plan, under-plan}
 
 -- no task below t holds what reaches t
 abbrev pub Free : Plan → List (ℕ × ℕ) → ℕ → Type 0

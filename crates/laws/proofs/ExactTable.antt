@@ -1,12 +1,12 @@
--- The blocking table is exact: law (c).
+-- The blocking table is exact: what holds up a task has an entry, and every entry is shown by three calls.
 use mathlib.Core.Path.{_≡_, refl, sym, ap, subst, _∙_}
 use mathlib.Core.Logic.{inr, ⊎-elim, ∥∥₁-elim}
 use mathlib.Core.Bool.{Bool, true, false, _||_, _&&_, not, cond, Bool-set}
 use mathlib.Core.List.{[], _∷_}
-use Prim.Native.Nat.{ℕ, _^_, _<_, _≤_}
+use Prim.Native.Nat.{ℕ, _^_, _<_}
 use native.Mathlib.Omega.{arith}
 use lib.Dec.{eqb, ltb, leb}
-use Rattle.std.proofs.shelf.Tests.{eq-eqb, both-ways, not-true, ltb-true, lt-ltb, lt-leb, ne-eqb, eqb-false, or-cases, or-left, or-right, or-from, and-parts, and-from, not-from-true, not-from-false, cases-bool, cases-lt}
+use Rattle.std.proofs.shelf.Tests.{eq-eqb, both-ways, not-true, ltb-true, lt-ltb, lt-leb, ne-eqb, eqb-false, or-cases, or-left, or-right, or-from, and-parts, and-from, not-from-true, not-from-false, cases-bool}
 use Rattle.std.specs.declared.option.Option.{Option}
 use Rattle.std.specs.declared.option.Option.the-variants.{Some, None}
 use Rattle.plan.specs.declared.record.Plan.{Plan}
@@ -26,9 +26,10 @@ use Rattle.machine.specs.Laws.{history, Set, Can-hold-up, Shown, Exact}
 use Rattle.vectors.proofs.Vectors.{highest-empties, highest-none, in-small}
 use Rattle.laws.proofs.Sets.{highest-some, greatest-is, false-from, all-pass, own-bit, one-bit}
 use Rattle.laws.proofs.Lists.{under-here, user-declared, user-in-range}
-use Rattle.laws.proofs.Sound.{Allowed, block}
-use Rattle.laws.proofs.Words.{first-last, none-refused, allows, Inv, unfinished-is, Ready, ready}
-use Rattle.laws.proofs.Runs.{From, from-inv, history-from}
+use Rattle.laws.proofs.Invariant.{Allowed, block}
+use Rattle.laws.proofs.Allowances.{passes, none-refused, allows}
+use Rattle.laws.proofs.Agreement.{Inv, unfinished-is, Ready, ready}
+use Rattle.laws.proofs.Exclusion.{From, from-inv, history-from}
 
 -- what holds up a task is in the table
 
@@ -153,14 +154,14 @@ module _ (p : Plan) (l t r : ℕ) (c : ℕ) (w : ℕ → Bool) (x : Case p l t r
   second-step : Went (Release (2 ^ l)) (m₁ p l t r c w) (y₂ p l t r c w)
   second-step =
       go-on (Release (2 ^ l)) (release (in-vector (2 ^ l))) (m₁ p l t r c w) (y₁ p l t r c w) (Some l) (first-step .now) refl
-      (first-last (strays (2 ^ l) (declares p)) ForeignTask None
+      (passes (strays (2 ^ l) (declares p)) ForeignTask None
       (all-pass (2 ^ l) (declares p) (λ k e. subst (λ (i : ℕ). declares p i ≡ true) (sym (one-bit l k e)) known-l)) refl)
       (ap (λ (o : Option ℕ). keep-if (exceeds p (moved (release (in-vector (2 ^ l))) (y₁ p l t r c w))) o) l-first)
 
   third-step : Went (Lock r) (m₂ p l t r c w) (y₃ p l t r c w)
   third-step =
       go-on (Lock r) (lock r) (m₂ p l t r c w) (y₂ p l t r c w) None (second-step .now) refl
-      (first-last (leb (p .resources) r) NotDeclared _ (user-in-range p r l (x .user)) (first-last (not (uses p r l)) NotEntitled _ (not-from-true (uses p r l) (x .user)) refl)) refl
+      (passes (leb (p .resources) r) NotDeclared _ (user-in-range p r l (x .user)) (passes (not (uses p r l)) NotEntitled _ (not-from-true (uses p r l) (x .user)) refl)) refl
 
   no-more : (k : ℕ) → y₃ p l t r c w .waiting k ≡ true → ⊥
   no-more k e =
@@ -192,7 +193,7 @@ module _ (p : Plan) (l t r : ℕ) (c : ℕ) (w : ℕ → Bool) (x : Case p l t r
   fourth-step : Went (Release (2 ^ t)) (m₃ p l t r c w) (y₄ p l t r c w)
   fourth-step =
       go-on (Release (2 ^ t)) (release (in-vector (2 ^ t))) (m₃ p l t r c w) (y₃ p l t r c w) None (third-step .now) refl
-      (first-last (strays (2 ^ t) (declares p)) ForeignTask None
+      (passes (strays (2 ^ t) (declares p)) ForeignTask None
       (all-pass (2 ^ t) (declares p) (λ k e. subst (λ (i : ℕ). declares p i ≡ true) (sym (one-bit t k e)) (x .known))) refl)
       (ap (λ (o : Option ℕ). keep-if (exceeds p (y₄ p l t r c w)) o) t-first
       ∙ ap (λ (b : Bool). cond b (Some t) None) (block p (y₄ p l t r c w) t (inr (under-here p (r, l) [] t (x .high)))))
@@ -257,8 +258,8 @@ takes p t e = go (highest 64 (declares p)) refl
         → refuse-if (absent o) NoTaskDeclared (refuse-if (too-small 64 o) SetTooSmall (refuse-if (present (highest 64 (λ (k : ℕ). false))) SetNotEmpty None)) ≡ None
     go None q = absurd (both-ways (declares p t) (highest-empties 64 (declares p) q t (in-small _ t e)) e)
     go (Some d) q =
-        first-last (leb 64 d) SetTooSmall _ (lt-leb 64 d (highest-some 64 (declares p) d q .within))
-        (first-last (present (highest 64 (λ (k : ℕ). false))) SetNotEmpty None (ap (λ (o : Option ℕ). present o) (highest-none 64 (λ (k : ℕ). false) (λ k h. refl))) refl)
+        passes (leb 64 d) SetTooSmall _ (lt-leb 64 d (highest-some 64 (declares p) d q .within))
+        (passes (present (highest 64 (λ (k : ℕ). false))) SetNotEmpty None (ap (λ (o : Option ℕ). present o) (highest-none 64 (λ (k : ℕ). false) (λ k h. refl))) refl)
 
 case : (p : Plan) (l t r : ℕ) → may-hold-up p l t r ≡ true → (c : ℕ) (w : ℕ → Bool) → Set c w → refusal (Install p) (fresh c w .schedule) ≡ None → Case p l t r c w
 case p l t r e c w s q =

@@ -1,4 +1,4 @@
--- Every run keeps the invariant, and what the invariant says of one moment: law (a).
+-- Every run keeps the invariant; what the invariant says of one moment is exclusion.
 use mathlib.Core.Path.{_≡_, refl, sym, ap, subst, _∙_}
 use mathlib.Core.Logic.{_⊎_, inl, inr, ⊎-elim}
 use mathlib.Core.Bool.{Bool, true, false}
@@ -18,8 +18,8 @@ use Rattle.machine.specs.Refusals.{refusal}
 use Rattle.machine.specs.History.{History, runs, plan-of, holder-of, unfinished, ceiling-under, may-lock-under}
 use Rattle.machine.specs.Laws.{record-run, history, Set, Exclusive}
 use Rattle.laws.proofs.Lists.{Falling, top, head-among, under-ceiling, under-cases, user-below}
-use Rattle.laws.proofs.Sound.{blocked}
-use Rattle.laws.proofs.Words.{Inv, unfinished-is, inv-first, inv-step, Ready, ready, busy-plan}
+use Rattle.laws.proofs.Invariant.{blocked}
+use Rattle.laws.proofs.Agreement.{Inv, unfinished-is, inv-first, inv-step, Ready, ready, busy-plan}
 
 -- h is the history of calls on some new kernel, and m the machine after them
 abbrev pub From : History → Machine → Type 0
@@ -40,7 +40,7 @@ run-from (c ∷ cs) m h f = run-from cs (step c m) (record { call = c; answer = 
 pub history-from : (c : ℕ) (w : ℕ → Bool) → Set c w → (cs : List Call) → (n : Machine) × From (history c w cs) n
 history-from c w s cs = run-from cs (fresh c w) [] (c, w, s, refl)
 
--- law (a)
+-- exclusion
 
 alone : (p : Plan) (y : Schedule) → Ready p y → (t r k : ℕ) → running y ≡ Some t → uses p r t ≡ true → holder (y .held) r ≡ Some k → k ≡ t
 alone p y g t r k e u h =

@@ -1,4 +1,4 @@
--- What holds of every schedule that moves lead to.
+-- The invariant: what holds of every schedule that allowed moves lead to. Each move keeps it, and one lemma on dispatch serves them all.
 use mathlib.Core.Path.{_≡_, refl, sym, ap, subst, _∙_}
 use mathlib.Core.Logic.{_⊎_, inl, inr, ⊎-elim}
 use mathlib.Core.Bool.{Bool, true, false, _||_, _&&_, not, cond}
@@ -6,14 +6,14 @@ use mathlib.Core.List.{List, [], _∷_}
 use Prim.Native.Nat.{ℕ, _<_, _≤_}
 use native.Mathlib.Omega.{arith}
 use lib.Dec.{eqb, ltb}
-use Rattle.std.proofs.shelf.Tests.{both-ways, not-true, not-false, not-from-true, leb-false, le-leb, eqb-true, and-parts, and-cases, and-left, and-right, or-from, or-cases, or-left, or-right, cases-bool}
+use Rattle.std.proofs.shelf.Tests.{both-ways, not-true, not-false, not-from-true, leb-false, le-leb, eqb-true, and-parts, and-cases, and-left, and-right, or-from, or-cases, or-left, or-right}
 use Rattle.std.specs.declared.option.Option.{Option}
 use Rattle.std.specs.declared.option.Option.the-variants.{Some, None}
 use Rattle.plan.specs.declared.record.Plan.{Plan}
-use Rattle.vectors.specs.Vectors.{in-vector, highest}
+use Rattle.vectors.specs.Vectors.{highest}
 use Rattle.plan.specs.Plans.{declares, uses, ceiling, reaches}
 use Rattle.machine.specs.Moves.{Move, stay, fit, release, lock, unlock, leave}
-use Rattle.machine.specs.Schedules.{Schedule, with-held, head, tail, among, running, holder, holds-any, newest, exceeds, keep-if, due-under, started, add-lock, moved, dispatches, starts, after-move}
+use Rattle.machine.specs.Schedules.{Schedule, with-held, head, tail, among, running, holder, holds-any, newest, exceeds, keep-if, due-under, started, add-lock, moved, after-move}
 use Rattle.laws.proofs.Busy.{busy}
 use Rattle.machine.specs.Refusals.{tasks-of, may-lock}
 use Rattle.machine.specs.History.{given}
