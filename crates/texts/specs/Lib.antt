@@ -1,3 +1,5 @@
 pub mod Pieces
 pub mod Records
 pub mod Readings
+pub mod Digits
+pub mod Verbs
