@@ -1,3 +1,5 @@
 pub mod Cuts
 pub mod Read
 pub mod Numbers
+pub mod Asked
+pub mod Spelt

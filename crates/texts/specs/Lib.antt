@@ -3,3 +3,5 @@ pub mod Records
 pub mod Readings
 pub mod Digits
 pub mod Verbs
+pub mod Requests
+pub mod Spellings
