@@ -3,3 +3,4 @@ pub mod Read
 pub mod Numbers
 pub mod Asked
 pub mod Spelt
+pub mod Fronted

@@ -5,3 +5,4 @@ pub mod Digits
 pub mod Verbs
 pub mod Requests
 pub mod Spellings
+pub mod Fronts
