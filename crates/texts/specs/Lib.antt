@@ -6,3 +6,5 @@ pub mod Verbs
 pub mod Requests
 pub mod Spellings
 pub mod Fronts
+pub mod Outcomes
+pub mod Lines

@@ -2,6 +2,8 @@
 // spells a call, and the line that tells of a call. Each is proved to its bytes.
 mod digits;
 mod fronts;
+pub mod lines;
+pub mod outcomes;
 mod pieces;
 pub mod records;
 pub mod requests;
