@@ -4,3 +4,4 @@ pub mod Numbers
 pub mod Asked
 pub mod Spelt
 pub mod Fronted
+pub mod Backs

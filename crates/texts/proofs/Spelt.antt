@@ -23,11 +23,11 @@ use Rattle.texts.specs.Pieces.{Lacks, pieces, pieces-from}
 use Rattle.texts.specs.Digits.{is-number, number, number-field, vector-field}
 use Rattle.texts.specs.Verbs.{word-of, named, verbs, verb-of}
 use Rattle.texts.specs.Requests.{asked-bare, asked-one, asked-two, both, asked-with, asked-as, asked-by, asked}
-use Rattle.texts.specs.Spellings.{Writes, Vector, Number, One-field, Two-fields, Spells}
+use Rattle.texts.specs.Spells.{Writes, Vector, Number, One-field, Two-fields, Spells}
 use Rattle.texts.proofs.Cuts.{pieces-cut, pieces-last, rejoin, rejoined}
 use Rattle.texts.proofs.Numbers.{digits-from, digits-to, number-is}
 
-none-some : {X : Type 0} {x : X} (P : Type 0) → None ≡ Some x → P
+pub none-some : {X : Type 0} {x : X} (P : Type 0) → None ≡ Some x → P
 none-some P e = let z : _≡_ {A = ℕ} 0 1 = cc in absurd (omega arith)
 
 -- Numbers: a field is read as n just where it writes n.

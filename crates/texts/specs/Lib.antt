@@ -4,7 +4,8 @@ pub mod Readings
 pub mod Digits
 pub mod Verbs
 pub mod Requests
-pub mod Spellings
+pub mod Spells
 pub mod Fronts
 pub mod Outcomes
 pub mod Lines
+pub mod Spelling

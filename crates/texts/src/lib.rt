@@ -7,4 +7,5 @@ pub mod outcomes;
 mod pieces;
 pub mod records;
 pub mod requests;
+pub mod spellings;
 mod verbs;

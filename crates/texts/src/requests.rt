@@ -1,8 +1,8 @@
-// The call that a record spells, and the record that spells a call.
+// The call that a record spells.
 ghost use mathlib.Core.Path.{_≡_};
 ghost use Rattle.std.specs.declared.option.Option.the-variants.{Some};
 ghost use Rattle.texts.specs.Requests.{asked-bare, asked-one, asked-two, asked};
-ghost use Rattle.texts.specs.Spellings.{Spells};
+ghost use Rattle.texts.specs.Spells.{Spells};
 use crate::digits::read_number;
 use crate::digits::read_vector;
 use crate::pieces::cut_at;
