@@ -23,7 +23,7 @@ use Rattle.texts.specs.Pieces.{Lacks, pieces, pieces-from}
 use Rattle.texts.specs.Digits.{is-number, number, number-field, vector-field}
 use Rattle.texts.specs.Verbs.{word-of, named, verbs, verb-of}
 use Rattle.texts.specs.Requests.{asked-bare, asked-one, asked-two, both, asked-with, asked-as, asked-by, asked}
-use Rattle.texts.specs.Spells.{Writes, Vector, Number, One-field, Two-fields, Spells}
+use Rattle.texts.specs.Spells.{Writes, Vector, Number, One-field, Two-fields, Spells, Asks-what-it-spells}
 use Rattle.texts.proofs.Cuts.{pieces-cut, pieces-last, rejoin, rejoined}
 use Rattle.texts.proofs.Numbers.{digits-from, digits-to, number-is}
 
@@ -143,10 +143,9 @@ spelt-by : (fs : List (List ℕ)) (q : Call) → asked-by fs ≡ Some q → Spel
 spelt-by [] q e = none-some _ e
 spelt-by (w ∷ fs) q e = spelt-as w fs q (verb-of w) refl e
 
-pub read-spelt : (q : Call) (bs : List ℕ) → asked bs ≡ Some q → Spells q bs
+read-spelt : (q : Call) (bs : List ℕ) → asked bs ≡ Some q → Spells q bs
 unfolding asked
 read-spelt q bs e = subst (Spells q) (rejoined 44 bs) (spelt-by (pieces 44 bs) q e)
 
--- Both facts of a result.
-pub told : (r : Option Call) (bs : List ℕ) → r ≡ asked bs → (q : Call) → (r ≡ Some q → Spells q bs) × (Spells q bs → r ≡ Some q)
-told r bs is q = (λ e. read-spelt q bs (sym is ∙ e), λ h. is ∙ spelt-read q bs h)
+pub asks-what-it-spells : (bs : List ℕ) → Asks-what-it-spells bs
+asks-what-it-spells bs q = (read-spelt q bs, spelt-read q bs)

@@ -1,4 +1,5 @@
 -- The call that a record asks for.
+use mathlib.Core.Path.{_≡_}
 use mathlib.Core.List.{List, [], _∷_}
 use Prim.Native.Nat.{ℕ}
 use Rattle.std.specs.declared.option.Option.{Option}
@@ -66,3 +67,8 @@ asked-by (w ∷ fs) = asked-as (verb-of w) fs
 -- The call that a record asks for, by the fields between its commas; none where it cannot be read.
 unfoldable pub asked : List ℕ → Option Call
 asked bs = asked-by (pieces 44 bs)
+
+-- What the record bs asks for goes by its word w and its fields fs.
+pub record Asks (bs w : List ℕ) (fs : List (List ℕ)) : Type 0 where
+  pub known : (v : Verb) → verb-of w ≡ Some v → asked bs ≡ asked-with v fs
+  pub unknown : verb-of w ≡ None → asked bs ≡ None

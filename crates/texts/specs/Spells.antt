@@ -9,6 +9,7 @@ use Rattle.std.specs.declared.option.Option.the-variants.{None, Some}
 use Rattle.std.specs.Reads.{Digits, value}
 use Rattle.machine.specs.declared.Call.{Call}
 use Rattle.machine.specs.declared.Call.the-variants.{Install, Release, Lock, Unlock, Exit, Signal, SignalRelease, Test}
+use Rattle.texts.specs.Requests.{asked}
 
 -- The bytes ds are 1 to `most` digits, whose value is n.
 pub record Writes (radix most : ℕ) (ds : List ℕ) (n : ℕ) : Type 0 where
@@ -45,3 +46,7 @@ Spells (Signal n (Some v)) bs = Two-fields (codes "signal,") n v bs
 Spells (SignalRelease n None) bs = One-field (codes "signalrelease,") Number n bs
 Spells (SignalRelease n (Some v)) bs = Two-fields (codes "signalrelease,") n v bs
 Spells (Test n) bs = One-field (codes "test,") Number n bs
+
+-- The record bs asks for a call just where it spells it.
+abbrev pub Asks-what-it-spells : List ℕ → Type 0
+Asks-what-it-spells bs = (q : Call) → (asked bs ≡ Some q → Spells q bs) × (Spells q bs → asked bs ≡ Some q)

@@ -1,8 +1,11 @@
 // The call that a record spells.
 ghost use mathlib.Core.Path.{_≡_};
+ghost use mathlib.Core.List.{[]};
 ghost use Rattle.std.specs.declared.option.Option.the-variants.{Some};
-ghost use Rattle.texts.specs.Requests.{asked-bare, asked-one, asked-two, asked};
-ghost use Rattle.texts.specs.Spells.{Spells};
+ghost use Rattle.std.specs.Options.{Cases};
+ghost use Rattle.texts.specs.Pieces.{pieces};
+ghost use Rattle.texts.specs.Requests.{asked-bare, asked-one, asked-two, asked-with, asked, Asks};
+ghost use Rattle.texts.specs.Spells.{Spells, Asks-what-it-spells};
 use crate::digits::read_number;
 use crate::digits::read_vector;
 use crate::pieces::cut_at;
@@ -47,17 +50,11 @@ fn read_two(verb: Verb, first: &[u8], second: &[u8]) -> Option<Call>
     }
 }
 
-// The call that a record spells; none where it spells none.
-pub fn read_call(text: &[u8]) -> Option<Call>
-    ensures means { λ r. ⌜ r ≡ asked (now (text .entry)) ⌝ }
-    ensures spells { λ r. ⌜ ((q : Call) → (r ≡ Some q → Spells q (now (text .entry))) × (Spells q (now (text .entry)) → r ≡ Some q)) ⌝ }
+// The call of a verb with at least one field.
+fn read_fields(verb: Verb, fields: &[u8]) -> Option<Call>
+    ensures { λ r. ⌜ r ≡ asked-with verb (pieces 44 (now (fields .entry))) ⌝ }
 {
-    let (word, more) = cut_at(text, b',');
-    let verb = Verb::read(word)?;
-    let Some(rest) = more else {
-        return read_bare(verb);
-    };
-    let (first, more) = cut_at(rest, b',');
+    let (first, more) = cut_at(fields, b',');
     let Some(rest) = more else {
         return read_one(verb, first);
     };
@@ -65,5 +62,28 @@ pub fn read_call(text: &[u8]) -> Option<Call>
     match more {
         Some(_) => None,
         None => read_two(verb, first, second),
+    }
+}
+
+// The word of a record, and its fields where there are any. What the record asks for by them is what it spells.
+fn cut_word(text: &[u8]) -> (&[u8], Option<&[u8]>)
+    ensures asks { λ r. ⌜ Cases (r .1) (Asks (now (text .entry)) (now (r .0)) []) (λ fields. Asks (now (text .entry)) (now (r .0)) (pieces 44 (now fields))) ⌝ }
+    ensures spells { λ _. ⌜ Asks-what-it-spells (now (text .entry)) ⌝ }
+{
+    cut_at(text, b',')
+}
+
+// The call that a record spells; none where it spells none.
+pub fn read_call(text: &[u8]) -> Option<Call>
+    ensures means { λ r. ⌜ r ≡ asked (now (text .entry)) ⌝ }
+    ensures spells { λ r. ⌜ ((q : Call) → (r ≡ Some q → Spells q (now (text .entry))) × (Spells q (now (text .entry)) → r ≡ Some q)) ⌝ }
+{
+    let (word, more) = cut_word(text);
+    let Some(verb) = Verb::read(word) else {
+        return None;
+    };
+    match more {
+        Some(fields) => read_fields(verb, fields),
+        None => read_bare(verb),
     }
 }
