@@ -1,18 +1,16 @@
 // The record that spells a call.
 ghost use mathlib.Core.Path.{_≡_};
-ghost use mathlib.Core.List.{List, _++_};
-ghost use Prim.Native.Nat.{ℕ, _+_, _≤_};
-ghost use Rattle.std.specs.Options.{Cases, mapped};
-ghost use Rattle.std.specs.declared.option.Option.the-variants.{Some, None};
+ghost use mathlib.Core.Bool.{true, false};
+ghost use mathlib.Core.List.{_++_};
+ghost use Prim.Native.Nat.{_+_, _≤_};
+ghost use Rattle.std.specs.Options.{Cases};
 ghost use Rattle.texts.specs.Fronts.{text-of, hex};
+ghost use Rattle.texts.specs.Lines.{field};
 ghost use Rattle.texts.specs.Verbs.{word-of};
-ghost use Rattle.texts.specs.Requests.{asked};
-ghost use Rattle.texts.specs.Spells.{Spells};
-ghost use Rattle.texts.specs.Spelling.{worded, numbered, spelling, vector-after, Fits-vector, Fits, Spelt};
+ghost use Rattle.texts.specs.Spelling.{vector-after, numbered, is-short, has-record, record-of, Fits-vector, Fits, Spelt, Reads-back};
 use crate::fronts::Front;
 use crate::verbs::Verb;
 use machine::Call;
-use std::alloc::AllocError;
 
 // Why a call was not written: it has no record, or memory is wanting.
 #[derive(Clone, Copy, PartialEq, Debug)]
@@ -23,7 +21,7 @@ pub enum Unwritten {
 
 // The text of a verb and a vector.
 fn vector_text(verb: Verb, v: u64) -> Front
-    ensures { λ r. ⌜ text-of r ≡ worded verb (hex 16 v) ⌝ }
+    ensures { λ r. ⌜ text-of r ≡ field (word-of verb) (hex 16 v) ⌝ }
 {
     let mut text = Front::empty();
     text.put_hex(v);
@@ -47,7 +45,7 @@ fn put_vector(text: &mut Front, v: Option<u64>)
 
 // The text of a verb and a number, with a vector where there is one; none for a number of more than 3 digits.
 fn number_text(verb: Verb, n: u16, v: Option<u64>) -> Option<Front>
-    ensures means { λ r. ⌜ mapped text-of r ≡ numbered verb n v ⌝ }
+    ensures means { λ r. ⌜ Cases r (is-short n ≡ false) (λ f. (is-short n ≡ true) × (text-of f ≡ numbered verb n v)) ⌝ }
     ensures fits { λ r. ⌜ Cases r (Unit {0}) (λ _. Fits-vector v) ⌝ }
 {
     if n > 999 {
@@ -72,7 +70,7 @@ fn bare_text(verb: Verb) -> Front
 
 // The text of the call's record, if it has one.
 fn spell(call: &Call) -> Option<Front>
-    ensures means { λ r. ⌜ mapped text-of r ≡ spelling (now (call .entry)) ⌝ }
+    ensures means { λ r. ⌜ Cases r (has-record (now (call .entry)) ≡ false) (λ f. (has-record (now (call .entry)) ≡ true) × (text-of f ≡ record-of (now (call .entry)))) ⌝ }
     ensures fits { λ r. ⌜ Cases r (Unit {0}) (λ _. Fits (now (call .entry))) ⌝ }
 {
     match call {
@@ -87,14 +85,21 @@ fn spell(call: &Call) -> Option<Front>
     }
 }
 
-// Adds the record of a call to the output, without a line end; nothing where it has none. What is written
-// reads back as the call, and a call is turned down only where no record spells it.
-pub fn push_call(out: &mut Vec<u8>, call: &Call) -> Result<(), Unwritten>
-    ensures writes { λ r. ⌜ Spelt (now (out .entry)) (spelling (now (call .entry))) r (now (out .exit)) ⌝ }
-    ensures back { λ _. ⌜ ((bs : List ℕ) → spelling (now (call .entry)) ≡ Some bs → asked bs ≡ Some (now (call .entry))) ⌝ }
-    ensures unspelt { λ _. ⌜ (spelling (now (call .entry)) ≡ None → (bs : List ℕ) → Spells (now (call .entry)) bs → ⊥) ⌝ }
+// The same, with the law that the record reads back as the call.
+fn record_text(call: &Call) -> Option<Front>
+    ensures means { λ r. ⌜ Cases r (has-record (now (call .entry)) ≡ false) (λ f. (has-record (now (call .entry)) ≡ true) × (text-of f ≡ record-of (now (call .entry)))) ⌝ }
+    ensures law { λ _. ⌜ Reads-back (now (call .entry)) ⌝ }
 {
-    let Some(text) = spell(call) else {
+    spell(call)
+}
+
+// Adds the record of a call to the output, without a line end; nothing where it has none. The record reads
+// back as the call, and a call has none only where nothing spells it.
+pub fn push_call(out: &mut Vec<u8>, call: &Call) -> Result<(), Unwritten>
+    ensures writes { λ r. ⌜ Spelt (now (call .entry)) (now (out .entry)) r (now (out .exit)) ⌝ }
+    ensures law { λ _. ⌜ Reads-back (now (call .entry)) ⌝ }
+{
+    let Some(text) = record_text(call) else {
         return Err(Unwritten::NoRecord);
     };
     match text.add_to(out) {
