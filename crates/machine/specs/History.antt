@@ -116,10 +116,10 @@ abbrev pub begins : Entry → History → ℕ → Bool
 begins e h t = unfinished (e ∷ h) t && (ends e h t || not (unfinished h t))
 
 -- Task l has held r without a break since before the release of task t.
-abbrev pub held-since : History → ℕ → ℕ → ℕ → Type 0
-held-since [] l t r = ⊥
-held-since (e ∷ h) l t r =
-    (holder-of (e ∷ h) r ≡ Some l) × cond (begins e h t) (holder-of h r ≡ Some l) (held-since h l t r)
+abbrev pub Held-since : History → ℕ → ℕ → ℕ → Type 0
+Held-since [] l t r = ⊥
+Held-since (e ∷ h) l t r =
+    (holder-of (e ∷ h) r ≡ Some l) × cond (begins e h t) (holder-of h r ≡ Some l) (Held-since h l t r)
 
 -- The ceiling of resource r, and its users, under the installed plan.
 abbrev pub ceiling-under : Option Plan → ℕ → Option ℕ
@@ -137,4 +137,4 @@ pub record Holds-up (h : History) (l t r : ℕ) : Type 0 where
   pub below : l < t
   pub waits : unfinished h t ≡ true
   pub high : reaches (ceiling-under (plan-of h) r) t ≡ true
-  pub held : held-since h l t r
+  pub held : Held-since h l t r

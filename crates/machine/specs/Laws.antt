@@ -40,24 +40,24 @@ pub record Exclusive (h : History) : Type 0 where
       → ((k : ℕ) × (runs h ≡ Some k) × (t < k)) ⊎ ((k : ℕ) × (r : ℕ) × (holder-of h r ≡ Some k) × (k ≡ t → ⊥) × (reaches (ceiling-under (plan-of h) r) t ≡ true))
 
 -- A stretch of later calls on top of h holds no exit of task t.
-abbrev pub stays : List Entry → History → ℕ → Type 0
-stays [] h t = Unit {0}
-stays (e ∷ later) h t = (ends e (later ++ h) t ≡ false) × stays later h t
+abbrev pub No-exit : List Entry → History → ℕ → Type 0
+No-exit [] h t = Unit {0}
+No-exit (e ∷ later) h t = (ends e (later ++ h) t ≡ false) × No-exit later h t
 
 -- After the last call of h, a running task below t is l, and l holds up t over r.
-abbrev pub only-now : History → ℕ → ℕ → ℕ → Type 0
-only-now h t l r = (k : ℕ) → runs h ≡ Some k → k < t → (k ≡ l) × Holds-up h l t r
+abbrev pub Only-now : History → ℕ → ℕ → ℕ → Type 0
+Only-now h t l r = (k : ℕ) → runs h ≡ Some k → k < t → (k ≡ l) × Holds-up h l t r
 
 -- The same after h and after each call of the stretch on top of it.
-abbrev pub only : List Entry → History → ℕ → ℕ → ℕ → Type 0
-only [] h t l r = only-now h t l r
-only (e ∷ later) h t l r = only-now ((e ∷ later) ++ h) t l r × only later h t l r
+abbrev pub Only : List Entry → History → ℕ → ℕ → ℕ → Type 0
+Only [] h t l r = Only-now h t l r
+Only (e ∷ later) h t l r = Only-now ((e ∷ later) ++ h) t l r × Only later h t l r
 
 -- Blocked at most once. From the release of a task, by the call e, to its exit there are one task l and one resource r such
 -- that no lower task but l ever runs, and l holds the released task up over r whenever it does.
 abbrev pub Blocked-once : History → Type 0
-Blocked-once h = (t : ℕ) (e : Entry) (later earlier : History) → h ≡ later ++ (e ∷ earlier) → begins e earlier t ≡ true → stays later (e ∷ earlier) t
-    → (l : ℕ) × (r : ℕ) × only later (e ∷ earlier) t l r
+Blocked-once h = (t : ℕ) (e : Entry) (later earlier : History) → h ≡ later ++ (e ∷ earlier) → begins e earlier t ≡ true → No-exit later (e ∷ earlier) t
+    → (l : ℕ) × (r : ℕ) × Only later (e ∷ earlier) t l r
 
 -- Under plan p, l can hold up t over r: it does so after some calls on some new kernel, with p then installed.
 abbrev pub Can-hold-up : Plan → ℕ → ℕ → ℕ → Type 0

@@ -1,6 +1,6 @@
 -- The machine: a schedule and marks, what an accepted call does to them and answers, and how a refused call leaves them.
 use Prim.Native.Nat.{ℕ}
-use mathlib.Core.Bool.{Bool, true, false, _||_, _&&_, not}
+use mathlib.Core.Bool.{Bool, false, _||_, _&&_, not}
 use mathlib.Core.List.{List, [], _∷_}
 use lib.Dec.{eqb}
 use Rattle.std.specs.declared.option.Option.{Option}

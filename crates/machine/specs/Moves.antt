@@ -1,7 +1,7 @@
 -- What an accepted call does, by kinds: to the schedule one of six moves, to the marks one of four markings.
 -- A new kind of call is a line in `move` and one in `marking`.
 use Prim.Native.Nat.{ℕ}
-use mathlib.Core.Bool.{Bool, true, false, _&&_}
+use mathlib.Core.Bool.{Bool, false, _&&_}
 use lib.Dec.{eqb}
 use Rattle.std.specs.declared.option.Option.{Option}
 use Rattle.std.specs.declared.option.Option.the-variants.{Some, None}

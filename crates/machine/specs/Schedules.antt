@@ -75,6 +75,11 @@ abbrev pub system-ceiling : Plan → List (ℕ × ℕ) → Option ℕ
 system-ceiling p [] = None
 system-ceiling p (x ∷ xs) = higher (ceiling p (x .0)) (system-ceiling p xs)
 
+-- The same under the installed plan, and none where there is no plan.
+abbrev pub system-ceiling-under : Option Plan → List (ℕ × ℕ) → Option ℕ
+system-ceiling-under None held = None
+system-ceiling-under (Some p) held = system-ceiling p held
+
 -- Task w exceeds the running task, if any, and the system ceiling, if any.
 abbrev pub exceeds : Plan → Schedule → ℕ → Bool
 exceeds p y w = not (reaches (running y) w) && not (reaches (system-ceiling p (y .held)) w)

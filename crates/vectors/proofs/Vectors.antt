@@ -1,47 +1,36 @@
 -- Task vectors in code: one bit set, one bit cleared, the highest.
-use Prim.Native.Nat.{ℕ, zero, suc, _+_, _-_, _*_, _/_, _%_, _^_, _<_, _≤_, min, max}
+use Prim.Native.Nat.{ℕ, zero, suc, _+_, _-_, _*_, _/_, _%_, _^_, _<_, _≤_, min}
 use mathlib.Core.Path.{_≡_, refl, sym, ap, _∙_, subst, fun-ext}
-use mathlib.Core.Bool.{Bool, true, false, _&&_, _||_, not, cond}
-use mathlib.Core.Logic.{_⊎_, inl, inr, ⊎-elim}
+use mathlib.Core.Bool.{Bool, true, false, _&&_, _||_, not}
+use mathlib.Core.Logic.{_⊎_, ⊎-elim}
 use native.Mathlib.Omega.{arith}
 use lib.Dec.{eqb, ltb}
-use lib.Bits.{bitAnd, bitOr, and-mask, or-lt, and-le-l}
-use Rattle.std.proofs.shelf.Bits.{one-shl}
+use lib.Bits.{bitAnd, bitOr, or-lt, and-le-l}
 use lib.Count.{leadingZeros, leading-top}
-use lib.Pow.{pow-pos, pow-lt, pow-mono}
+use lib.Pow.{pow-pos, pow-lt, pow-mono, shr-lt, split}
 use Rattle.std.specs.declared.option.Option.{Option}
 use Rattle.std.specs.declared.option.Option.the-variants.{Some, None}
-use Rattle.std.proofs.shelf.Tests.{cases-eq, cases-lt, lt-ltb, le-ltb, eq-eqb, ne-eqb, and-from, and-parts, ltb-true, eqb-true, cases-bool, cond-true, cond-false, or-parts, or-from, not-false, not-true, or-cases, false≢true}
+use Rattle.std.proofs.shelf.Tests.{cases-eq, cases-lt, lt-ltb, le-ltb, eq-eqb, ne-eqb, and-parts, ltb-true, eqb-true, eqb-false, cases-bool, cond-true, cond-false, or-parts, or-from, not-false, not-true, or-cases, false≢true}
 use Rattle.std.proofs.shelf.Ways.{tells}
-use Rattle.vectors.specs.Vectors.{in-vector, with, without, highest, some, strays}
-use native.Mathlib.Nat.{pow-suc}
-use Rattle.vectors.proofs.Bits.{bit, bit-or, bit-and, bit-not, bit-zero, bit-above, bit-top, bit-one, bit-apart, bit-half, bit-first}
+use Rattle.vectors.specs.Vectors.{on, in-vector, vector-of, with, without, highest, some, strays}
+use native.Mathlib.Nat.{pow-suc, mod-lt}
+use Rattle.vectors.proofs.Bits.{bit, bit-mod, bit-and, bit-not, bit-zero, bit-above, bit-top, bit-half, bit-first, on-or, on-test, shifted, shifted-is, switch-on, switch-off-low}
 
-pub in-with : (v t : ℕ) → t < 64 → in-vector (bitOr v (2 ^ t)) ≡ with t (in-vector v)
-in-with v t h = fun-ext (λ k. ⊎-elim
-    (λ (e : k ≡ t). let b : bit (bitOr v (2 ^ t)) k ≡ 1 = omega (arith, bit-or v (2 ^ t) k, subst (λ (n : ℕ). bit (2 ^ t) n ≡ 1) (sym e) (bit-one t)) in grind (arith, tells))
-    (λ ne. let b : bit (bitOr v (2 ^ t)) k ≡ bit v k = omega (arith, bit-or v (2 ^ t) k, bit-apart t k ne) in grind (arith, tells))
-    (cases-eq k t))
-
-pub in-without : (v t : ℕ) → t < 64 → in-vector (bitAnd v ((2 ^ 64 - 1) - 2 ^ t)) ≡ without t (in-vector v)
-in-without v t h =
-    let p : 2 ^ t < 2 ^ 64 = pow-lt h in
-    fun-ext (λ k. ⊎-elim
-    (λ (l : k < 64).
-    let n : bit ((2 ^ 64 - 1) - 2 ^ t) k ≡ 1 - bit (2 ^ t) k = bit-not 64 k (2 ^ t) p l in
-    let a = bit-and v ((2 ^ 64 - 1) - 2 ^ t) k in
-    ⊎-elim
-    (λ (e : k ≡ t). let b : bit (bitAnd v ((2 ^ 64 - 1) - 2 ^ t)) k ≡ 0 = omega (arith, subst (λ (n : ℕ). bit (2 ^ t) n ≡ 1) (sym e) (bit-one t)) in grind (arith, tells))
-    (λ ne. let b : bit (bitAnd v ((2 ^ 64 - 1) - 2 ^ t)) k ≡ bit v k = omega (arith, bit-apart t k ne) in grind (arith, tells))
-    (cases-eq k t))
-    (λ (l : 64 ≤ k). grind (arith, tells))
-    (cases-lt k 64))
+-- a change of one number in a set of numbers below n: f says what becomes of it, by whether a number is t and whether it was there
+pub changed-below : (n t : ℕ) (f : Bool → Bool → Bool) (a b : ℕ → Bool) → ((o : Bool) → f false o ≡ o) → t < n
+    → ((k : ℕ) → k < n → a k ≡ f (eqb k t) (b k)) → _≡_ {A = ℕ → Bool} (λ k. ltb k n && a k) (λ k. f (eqb k t) (ltb k n && b k))
+changed-below n t f a b none h e = fun-ext (λ k. ⊎-elim
+    (λ (l : k < n). ap (λ x. x && a k) (lt-ltb k n l) ∙ e k l ∙ ap (λ x. f (eqb k t) (x && b k)) (sym (lt-ltb k n l)))
+    (λ (l : n ≤ k).
+    ap (λ x. x && a k) (le-ltb k n l)
+    ∙ sym (ap (λ x. f (eqb k t) (x && b k)) (le-ltb k n l) ∙ ap (λ x. f x false) (ne-eqb k t (omega arith)) ∙ none false))
+    (cases-lt k n))
 
 pub in-none : (t : ℕ) → in-vector 0 t ≡ false
 in-none t = let e = bit-zero t in grind (arith, tells)
 
 pub in-test : (v t : ℕ) → t < 64 → eqb (bitAnd (v / 2 ^ t) 1) 1 ≡ in-vector v t
-in-test v t h = let e : bitAnd (v / 2 ^ t) 1 ≡ bit v t = and-mask (v / 2 ^ t) 1 in grind (arith, tells)
+in-test v t h = on-test v t ∙ ap (λ b. b && on v t) (sym (lt-ltb t 64 h))
 
 pub in-below : (v c t : ℕ) → v < 2 ^ c → in-vector v t ≡ true → t < c
 in-below v c t h e = ⊎-elim (λ l. l) (λ l. let z = bit-above v c t h l in grind (arith, tells)) (cases-lt t c)
@@ -74,21 +63,16 @@ highest-word v c s p h =
     let low : j < c = in-below v c j h here in
     highest-is c j (in-vector v) low here (λ k a b. let z : bit v k ≡ 0 = bit-above v (suc j) k (top .3) a in grind (arith, tells)) ∙ ap Some (omega (arith, top .1))
 
--- as code writes it: `word | (1 << t)` and `word & !(1 << t)`
-abbrev pub shifted : ℕ → ℕ
-shifted t = (1 * 2 ^ t) % 18446744073709551616
+-- `word | (1 << t)` and `word & !(1 << t)`
 
-pub shifted-is : (t : ℕ) → t < 64 → shifted t ≡ 2 ^ t
-shifted-is t h = one-shl t 64 h
+pub code-with : (v t : ℕ) → t < 64 → in-vector (bitOr v (shifted 64 t)) ≡ with t (in-vector v)
+code-with v t h = changed-below 64 t (λ e o. e || o) (on (bitOr v (shifted 64 t))) (on v) (λ o. refl) h (λ k l. switch-on 64 v t k h)
 
-pub code-with : (v t : ℕ) → t < 64 → in-vector (bitOr v (shifted t)) ≡ with t (in-vector v)
-code-with v t h = rw (shifted-is t h) (in-with v t h)
+pub code-without : (v t : ℕ) → t < 64 → in-vector (bitAnd v (18446744073709551615 - shifted 64 t)) ≡ without t (in-vector v)
+code-without v t h = changed-below 64 t (λ e o. not e && o) (on (bitAnd v (18446744073709551615 - shifted 64 t))) (on v) (λ o. refl) h (λ k l. switch-off-low 64 v t k h l)
 
-pub code-without : (v t : ℕ) → t < 64 → in-vector (bitAnd v (18446744073709551615 - shifted t)) ≡ without t (in-vector v)
-code-without v t h = rw (shifted-is t h) (in-without v t h)
-
-pub with-below : (v t c : ℕ) → t < c → c ≤ 64 → v < 2 ^ c → bitOr v (shifted t) < 2 ^ c
-with-below v t c h s l = rw (shifted-is t (omega arith)) (or-lt c v (2 ^ t) l (pow-lt h))
+pub with-below : (v t c : ℕ) → t < c → c ≤ 64 → v < 2 ^ c → bitOr v (shifted 64 t) < 2 ^ c
+with-below v t c h s l = rw (shifted-is 64 t (omega arith)) (or-lt c v (2 ^ t) l (pow-lt h))
 
 pub without-below : (v m c : ℕ) → v < 2 ^ c → bitAnd v m < 2 ^ c
 without-below v m c l = omega (arith, and-le-l v m)
@@ -155,14 +139,14 @@ highest-tells (suc n) w m e = ⊎-elim
     (cases-bool (m n))
 
 pub in-or : (a b k : ℕ) → in-vector (bitOr a b) k ≡ (in-vector b k || in-vector a k)
-in-or a b k = let e = bit-or a b k in grind (arith, tells)
+in-or a b k = let e = on-or a b k in grind (arith, tells)
 
 ok-from : (x y : Bool) → x ≡ true → (x && not y) ≡ false → y ≡ true
 ok-from true y e f = not-false y f
 ok-from false y e f = absurd (false≢true e)
 
 pub in-small : (v t : ℕ) → in-vector v t ≡ true → t < 64
-in-small v t e = ltb-true t 64 (and-parts (ltb t 64) (eqb (v / 2 ^ t % 2) 1) e .0)
+in-small v t e = ltb-true t 64 (and-parts (ltb t 64) (on v t) e .0)
 
 none-some : (n : ℕ) (m : ℕ → Bool) → some n m ≡ false → (t : ℕ) → t < n → m t ≡ false
 unfolding some
@@ -191,14 +175,14 @@ pub empty-vector : (v : ℕ) → highest 64 (in-vector v) ≡ None → (k : ℕ)
 empty-vector v e k = ⊎-elim (λ (y : in-vector v k ≡ true). highest-empties 64 (in-vector v) e k (in-small v k y)) (λ f. f) (cases-bool (in-vector v k))
 
 -- a vector is less without one of its tasks
-pub without-less : (v t : ℕ) → in-vector v t ≡ true → bitAnd v (18446744073709551615 - shifted t) < v
+pub without-less : (v t : ℕ) → in-vector v t ≡ true → bitAnd v (18446744073709551615 - shifted 64 t) < v
 without-less v t y =
-    let w = bitAnd v (18446744073709551615 - shifted t) in
+    let w = bitAnd v (18446744073709551615 - shifted 64 t) in
     ⊎-elim
     (λ (q : w ≡ v).
     let e : in-vector w t ≡ without t (in-vector v) t = ap (λ (f : ℕ → Bool). f t) (code-without v t (in-small v t y)) in
     absurd (false≢true (sym (e ∙ ap (λ b. not b && in-vector v t) (eq-eqb t t refl)) ∙ ap (λ x. in-vector x t) q ∙ y)))
-    (λ (ne : w ≡ v → ⊥). omega (arith, and-le-l v (18446744073709551615 - shifted t), ne))
+    (λ (ne : w ≡ v → ⊥). omega (arith, and-le-l v (18446744073709551615 - shifted 64 t), ne))
     (cases-eq w v)
 
 some-one : (n : ℕ) (m : ℕ → Bool) → some n m ≡ true → (t : ℕ) × (m t ≡ true)
@@ -212,3 +196,35 @@ one-strays v ok e =
     let x = some-one 64 (λ t. in-vector v t && not (ok t)) e in
     let p = and-parts (in-vector v (x .0)) (not (ok (x .0))) (x .1) in
     (x .0, p .0, not-true (ok (x .0)) (p .1))
+
+-- a number of n bits is the vector of the places where it has a 1
+pub vector-is : (n v : ℕ) (m : ℕ → Bool) → v < 2 ^ n → ((k : ℕ) → k < n → on v k ≡ m k) → v ≡ vector-of n m
+unfolding vector-of
+vector-is zero v m h e = omega arith
+vector-is (suc n) v m h e =
+    let q : ℕ = v / 2 ^ n in
+    let low : v % 2 ^ n ≡ vector-of n m = vector-is n (v % 2 ^ n) m (mod-lt v (pow-pos n)) (λ k l. ap (λ x. eqb x 1) (bit-mod v n k l) ∙ e k (omega arith)) in
+    let whole : q * 2 ^ n + v % 2 ^ n ≡ v = split v n in
+    let few : q < 2 = shr-lt 1 n (subst (λ (i : ℕ). v < 2 ^ i) (omega arith) h) in
+    let top : on v n ≡ m n = e n (omega arith) in
+    ⊎-elim
+    (λ (y : m n ≡ true).
+    let one : q % 2 ≡ 1 = eqb-true (q % 2) 1 (top ∙ y) in
+    let is : q ≡ 1 = omega arith in
+    sym whole ∙ ap (λ x. x * 2 ^ n + v % 2 ^ n) is ∙ omega (arith, low, cond-true (m n) (2 ^ n) 0 y))
+    (λ (f : m n ≡ false).
+    let no : q % 2 ≡ 1 → ⊥ = eqb-false (q % 2) 1 (top ∙ f) in
+    let is : q ≡ 0 = omega (arith, no) in
+    sym whole ∙ ap (λ x. x * 2 ^ n + v % 2 ^ n) is ∙ omega (arith, low, cond-false (m n) (2 ^ n) 0 f))
+    (cases-bool (m n))
+
+-- the same of a vector of tasks
+pub vector-tells : (v : ℕ) (m : ℕ → Bool) → v < 2 ^ 64 → in-vector v ≡ m → v ≡ vector-of 64 m
+vector-tells v m h e = vector-is 64 v m h (λ k l. sym (ap (λ b. b && on v k) (lt-ltb k 64 l)) ∙ ap (λ (f : ℕ → Bool). f k) e)
+
+-- a vector of c bits has its highest task below c
+pub highest-fits : (v c : ℕ) → c ≤ 64 → v < 2 ^ c → highest c (in-vector v) ≡ highest 64 (in-vector v)
+highest-fits v c s h = ⊎-elim
+    (λ (z : v ≡ 0). ap (λ x. highest c (in-vector x)) z ∙ highest-empty c ∙ sym (ap (λ x. highest 64 (in-vector x)) z ∙ highest-empty 64))
+    (λ (ne : v ≡ 0 → ⊥). let p : 0 < v = omega arith in highest-word v c s p h ∙ sym (highest-word v 64 (omega arith) p (omega (arith, pow-mono s))))
+    (cases-eq v 0)

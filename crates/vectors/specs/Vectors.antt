@@ -1,13 +1,22 @@
 -- Task vectors, and sets of tasks as tests on numbers.
-use Prim.Native.Nat.{ℕ, zero, suc, _/_, _%_, _^_}
-use mathlib.Core.Bool.{Bool, true, false, _||_, _&&_, not, cond}
+use Prim.Native.Nat.{ℕ, zero, suc, _+_, _/_, _%_, _^_}
+use mathlib.Core.Bool.{Bool, false, _||_, _&&_, not, cond}
 use lib.Dec.{eqb, ltb}
 use Rattle.std.specs.declared.option.Option.{Option}
 use Rattle.std.specs.declared.option.Option.the-variants.{Some, None}
 
+-- Bit k of the number x is 1.
+abbrev pub on : ℕ → ℕ → Bool
+on x k = eqb (x / 2 ^ k % 2) 1
+
 -- Task t, from 0 to 63, is in the vector v.
 abbrev pub in-vector : ℕ → ℕ → Bool
-in-vector v t = ltb t 64 && eqb (v / 2 ^ t % 2) 1
+in-vector v t = ltb t 64 && on v t
+
+-- The vector of the numbers below n that are in the set m.
+unfoldable pub vector-of : ℕ → (ℕ → Bool) → ℕ
+vector-of zero m = 0
+vector-of (suc n) m = cond (m n) (2 ^ n) 0 + vector-of n m
 
 -- The set m and the number t.
 abbrev pub with : ℕ → (ℕ → Bool) → ℕ → Bool

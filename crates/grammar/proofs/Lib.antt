@@ -1,0 +1,5 @@
+pub mod Through
+pub mod Accepts
+pub mod Complete
+pub mod Agrees
+pub mod Sits

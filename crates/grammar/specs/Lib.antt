@@ -1,0 +1,4 @@
+pub mod Faults
+pub mod Slots
+pub mod Items
+pub mod Language

@@ -1,0 +1,5 @@
+pub mod Lists
+pub mod Locking
+pub mod Placing
+pub mod Marking
+pub mod Joining

@@ -1,0 +1,5 @@
+pub mod Lists
+pub mod Parts
+pub mod Locks
+pub mod Changes
+pub mod Meaning

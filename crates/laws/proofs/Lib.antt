@@ -1,0 +1,11 @@
+pub mod Sets
+pub mod Lists
+pub mod Busy
+pub mod Invariant
+pub mod Allowances
+pub mod Agreement
+pub mod Exclusion
+pub mod BlockedOnce
+pub mod ExactTable
+pub mod AllLawful
+pub mod Histories

@@ -1,0 +1,4 @@
+pub mod Heads
+pub mod Named
+pub mod Near
+pub mod Local

@@ -1,0 +1,4 @@
+pub mod Bytes
+pub mod Blanks
+pub mod Tokens
+pub mod Extents

@@ -1,0 +1,12 @@
+pub mod Tables
+pub mod Vectors
+pub mod Names
+pub mod Runs
+pub mod Stands
+pub mod Judged
+pub mod Readings
+pub mod Forms
+pub mod Whole
+pub mod Understands
+pub mod First
+pub mod Laws

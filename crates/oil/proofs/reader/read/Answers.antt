@@ -1,0 +1,38 @@
+use mathlib.Core.Path.{_≡_}
+use lib.ListN.{length}
+use Rattle.std.specs.declared.result.Result.the-variants.{Ok}
+use borrow.Author.Needs.{needs}
+use Rattle.oil.specs.Outcome.{outcome, Plan-after}
+use Rattle.oil.proofs.Understands.{understood-by}
+use Rattle.oil.proofs.Laws.{right-free}
+use Rattle.oil.proofs.reader.read.Needs as need
+
+pub returns-in-Break-draft : need.returns-in-Break-draft
+returns-in-Break-draft c =
+    let text = c .args .text .now in
+    let records = length (c .args .names .now) in
+    let old = c .args .plan .now in
+    let value : c .from-residual .result ≡ outcome text records = search needs in
+    let plan : Plan-after text records old old (c .from-residual .result) = search needs in
+    record {
+      value = value;
+      table = search needs;
+      plan = plan;
+      meaning = understood-by text records old old (c .from-residual .result) value plan;
+      nothing-right = right-free text records (c .from-residual .result) value;
+    }
+
+pub returns : need.returns
+returns c =
+    let text = c .args .text .now in
+    let records = length (c .args .names .now) in
+    let old = c .args .plan .now in
+    let value : Ok tt ≡ outcome text records = search needs in
+    let plan : Plan-after text records old (c .plan-of .result) (Ok tt) = search needs in
+    record {
+      value = value;
+      table = search needs;
+      plan = plan;
+      meaning = understood-by text records old (c .plan-of .result) (Ok tt) value plan;
+      nothing-right = right-free text records (Ok tt) value;
+    }

@@ -1,0 +1,41 @@
+-- The faults of a plan text: their numbers and layers.
+use Prim.Native.Nat.{ℕ}
+use Rattle.letters.specs.declared.fault.LettersCause.the-variants as letters
+use Rattle.grammar.specs.declared.fault.GrammarCause.the-variants as grammar
+use Rattle.grammar.specs.declared.fault.GrammarFault.{GrammarFault}
+use Rattle.oil.specs.declared.fault.Layer.{Layer}
+use Rattle.oil.specs.declared.fault.Layer.the-variants as layer
+use Rattle.oil.specs.declared.fault.PlanCause.{PlanCause}
+use Rattle.oil.specs.declared.fault.PlanCause.the-variants as cause
+use Rattle.oil.specs.declared.fault.PlanFault.{PlanFault}
+
+-- The number of each cause.
+abbrev pub number-of : PlanCause → ℕ
+number-of (cause.Grammar (grammar.Letters letters.TooLong)) = 1
+number-of (cause.Grammar (grammar.Letters letters.NoToken)) = 2
+number-of (cause.Grammar grammar.Misplaced) = 3
+number-of cause.NotKnown = 4
+number-of cause.NameTaken = 5
+number-of cause.WrongNumber = 6
+number-of cause.TooMany = 7
+number-of cause.NoTask = 8
+number-of cause.SmallTable = 9
+
+-- The layer that finds each cause.
+abbrev pub layer-of : PlanCause → Layer
+layer-of (cause.Grammar (grammar.Letters c)) = layer.Letters
+layer-of (cause.Grammar grammar.Misplaced) = layer.Grammar
+layer-of cause.NotKnown = layer.Plan
+layer-of cause.NameTaken = layer.Plan
+layer-of cause.WrongNumber = layer.Plan
+layer-of cause.TooMany = layer.Plan
+layer-of cause.NoTask = layer.Plan
+layer-of cause.SmallTable = layer.Plan
+
+-- A fault of the grammar as one of the plan: the same cause at the same place.
+abbrev pub raised-plan : GrammarFault → PlanFault
+raised-plan f = record { cause = cause.Grammar (f .cause); place = f .place }
+
+-- A fault with this cause at this place.
+abbrev pub refusal : PlanCause → ℕ → PlanFault
+refusal c place = record { cause = c; place = place }

@@ -1,0 +1,4 @@
+pub mod Table
+pub mod LowestOnes
+pub mod TwoLevels
+pub mod Pairing
