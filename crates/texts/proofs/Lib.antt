@@ -1,0 +1,7 @@
+pub mod Cuts
+pub mod Read
+pub mod Numbers
+pub mod Asked
+pub mod Spelt
+pub mod Fronted
+pub mod Backs

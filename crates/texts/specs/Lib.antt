@@ -1,0 +1,11 @@
+pub mod Pieces
+pub mod Records
+pub mod Readings
+pub mod Digits
+pub mod Verbs
+pub mod Requests
+pub mod Spells
+pub mod Fronts
+pub mod Outcomes
+pub mod Lines
+pub mod Spelling

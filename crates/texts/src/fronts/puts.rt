@@ -1,0 +1,90 @@
+// What is put before a text: bytes, and the digits of numbers.
+ghost use mathlib.Core.Path.{_≡_};
+ghost use mathlib.Core.List.{[], _∷_, _++_};
+ghost use Prim.Native.Nat.{_+_, _<_, _≤_};
+ghost use lib.ListN.{length};
+ghost use Rattle.std.specs.Written.{decimal};
+ghost use Rattle.std.specs.Text.{digitChar};
+ghost use Rattle.texts.specs.Fronts.{text-of, hex, Appended};
+use crate::fronts::Front;
+use std::alloc::AllocError;
+
+// The small hexadecimal digit that writes d.
+fn hex_digit(d: u8) -> u8
+    requires { ⌜ d < 16 ⌝ }
+    ensures { λ r. ⌜ r ≡ digitChar d ⌝ }
+{
+    if d < 10 { b'0' + d } else { b'a' + (d - 10) }
+}
+
+impl Front {
+    // The empty text.
+    pub fn empty() -> Front
+        ensures text { λ r. ⌜ text-of r ≡ [] ⌝ }
+        ensures room { λ r. ⌜ r .start ≡ 64 ⌝ }
+    {
+        Front {
+            bytes: [0; 64],
+            start: 64,
+        }
+    }
+
+    // Puts one byte before the text.
+    pub fn put(&mut self, b: u8)
+        requires { ⌜ 1 ≤ now self .start ⌝ }
+        ensures text { λ _. ⌜ text-of (now (self .exit)) ≡ b ∷ text-of (now (self .entry)) ⌝ }
+        ensures room { λ _. ⌜ now (self .entry) .start ≡ now (self .exit) .start + 1 ⌝ }
+    {
+        self.start -= 1;
+        self.bytes[self.start] = b;
+    }
+
+    // Puts bytes before the text.
+    pub fn put_all(&mut self, bytes: &[u8])
+        requires { ⌜ length (now bytes) ≤ now self .start ⌝ }
+        ensures text { λ _. ⌜ text-of (now (self .exit)) ≡ now (bytes .entry) ++ text-of (now (self .entry)) ⌝ }
+        ensures room { λ _. ⌜ now (self .entry) .start ≡ now (self .exit) .start + length (now (bytes .entry)) ⌝ }
+    {
+        let mut left = bytes.len();
+        while left > 0 {
+            left -= 1;
+            self.put(bytes[left]);
+        }
+    }
+
+    // Puts the decimal digits of n before the text.
+    pub fn put_decimal(&mut self, n: u32)
+        requires { ⌜ 10 ≤ now self .start ⌝ }
+        ensures text { λ _. ⌜ text-of (now (self .exit)) ≡ decimal n ++ text-of (now (self .entry)) ⌝ }
+        ensures room { λ _. ⌜ now (self .entry) .start ≤ now (self .exit) .start + 10 ⌝ }
+    {
+        let mut left = n;
+        while left >= 10 {
+            self.put(b'0' + (left % 10) as u8);
+            left /= 10;
+        }
+        self.put(b'0' + left as u8);
+    }
+
+    // Puts the 16 hexadecimal digits of v before the text.
+    pub fn put_hex(&mut self, v: u64)
+        requires { ⌜ 16 ≤ now self .start ⌝ }
+        ensures text { λ _. ⌜ text-of (now (self .exit)) ≡ hex 16 v ++ text-of (now (self .entry)) ⌝ }
+        ensures room { λ _. ⌜ now (self .entry) .start ≡ now (self .exit) .start + 16 ⌝ }
+    {
+        let mut left = v;
+        let mut places = 16u8;
+        while places > 0 {
+            places -= 1;
+            self.put(hex_digit((left % 16) as u8));
+            left /= 16;
+        }
+    }
+
+    // Adds the text to a vector, or nothing.
+    pub fn add_to(&self, out: &mut Vec<u8>) -> Result<(), AllocError>
+        ensures { λ r. ⌜ Appended (now (out .entry)) (text-of (now (self .entry))) r (now (out .exit)) ⌝ }
+    {
+        out.extend_from_slice(&self.bytes[self.start..])
+    }
+}
