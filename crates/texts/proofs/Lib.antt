@@ -5,3 +5,4 @@ pub mod Asked
 pub mod Spelt
 pub mod Fronted
 pub mod Backs
+pub mod SheetLines

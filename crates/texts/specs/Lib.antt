@@ -9,3 +9,4 @@ pub mod Fronts
 pub mod Outcomes
 pub mod Lines
 pub mod Spelling
+pub mod Sheets

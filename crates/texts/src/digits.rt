@@ -37,7 +37,7 @@ fn read_digits(field: &[u8], radix: u64, most: usize) -> Option<u64>
 }
 
 // The number of a resource or an event: 1 to 3 decimal digits.
-pub fn read_number(field: &[u8]) -> Option<u16>
+pub(crate) fn read_number(field: &[u8]) -> Option<u16>
     ensures { λ r. ⌜ r ≡ number-field (now (field .entry)) ⌝ }
 {
     match read_digits(field, 10, 3) {
@@ -47,7 +47,7 @@ pub fn read_number(field: &[u8]) -> Option<u16>
 }
 
 // A task vector: 1 to 16 hexadecimal digits.
-pub fn read_vector(field: &[u8]) -> Option<u64>
+pub(crate) fn read_vector(field: &[u8]) -> Option<u64>
     ensures { λ r. ⌜ r ≡ vector-field (now (field .entry)) ⌝ }
 {
     read_digits(field, 16, 16)

@@ -7,5 +7,6 @@ pub mod outcomes;
 mod pieces;
 pub mod records;
 pub mod requests;
+pub mod sheets;
 pub mod spellings;
 mod verbs;

@@ -10,7 +10,7 @@ use crate::outcomes::Report;
 use std::alloc::AllocError;
 
 // Puts a number and its comma before the text.
-fn put_number(text: &mut Front, n: u32)
+pub(crate) fn put_number(text: &mut Front, n: u32)
     requires { ⌜ 11 ≤ now text .start ⌝ }
     ensures text { λ _. ⌜ text-of (now (text .exit)) ≡ field (decimal n) (text-of (now (text .entry))) ⌝ }
     ensures room { λ _. ⌜ now (text .entry) .start ≤ now (text .exit) .start + 11 ⌝ }
@@ -20,7 +20,7 @@ fn put_number(text: &mut Front, n: u32)
 }
 
 // Puts a number, where there is one, and its comma before the text.
-fn put_optional(text: &mut Front, n: Option<u8>)
+pub(crate) fn put_optional(text: &mut Front, n: Option<u8>)
     requires { ⌜ 11 ≤ now text .start ⌝ }
     ensures text { λ _. ⌜ text-of (now (text .exit)) ≡ field (optional n) (text-of (now (text .entry))) ⌝ }
     ensures room { λ _. ⌜ now (text .entry) .start ≤ now (text .exit) .start + 11 ⌝ }
@@ -32,7 +32,7 @@ fn put_optional(text: &mut Front, n: Option<u8>)
 }
 
 // Puts a task vector and its comma before the text.
-fn put_vector(text: &mut Front, v: u64)
+pub(crate) fn put_vector(text: &mut Front, v: u64)
     requires { ⌜ 17 ≤ now text .start ⌝ }
     ensures text { λ _. ⌜ text-of (now (text .exit)) ≡ field (hex 16 v) (text-of (now (text .entry))) ⌝ }
     ensures room { λ _. ⌜ now (text .entry) .start ≤ now (text .exit) .start + 17 ⌝ }

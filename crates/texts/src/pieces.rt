@@ -21,7 +21,7 @@ fn place(bytes: &[u8], b: u8) -> usize
 }
 
 // The bytes before the first b, and those after it where there is one.
-pub fn cut_at(bytes: &[u8], b: u8) -> (&[u8], Option<&[u8]>)
+pub(crate) fn cut_at(bytes: &[u8], b: u8) -> (&[u8], Option<&[u8]>)
     ensures first { λ r. ⌜ Lacks b (now (r .0)) ⌝ }
     ensures rest { λ r. ⌜ Cases (r .1) (now (bytes .entry) ≡ now (r .0)) (λ rest. now (bytes .entry) ≡ now (r .0) ++ b ∷ now rest) ⌝ }
     ensures cuts { λ r. ⌜ Cases (r .1) (pieces b (now (bytes .entry)) ≡ now (r .0) ∷ []) (λ rest. pieces b (now (bytes .entry)) ≡ now (r .0) ∷ pieces b (now rest)) ⌝ }

@@ -17,7 +17,7 @@ pub enum Verb {
 
 impl Verb {
     // The word of the verb.
-    pub fn word(self) -> &'static [u8]
+    pub(crate) fn word(self) -> &'static [u8]
         ensures { λ r. ⌜ now r ≡ word-of self ⌝ }
     {
         match self {
@@ -39,7 +39,7 @@ impl Verb {
     }
 
     // The verb whose word the bytes are.
-    pub fn read(bytes: &[u8]) -> Option<Verb>
+    pub(crate) fn read(bytes: &[u8]) -> Option<Verb>
         ensures { λ r. ⌜ r ≡ verb-of (now (bytes .entry)) ⌝ }
     {
         if Verb::Releases.is_spelt(bytes) {

@@ -19,7 +19,7 @@ fn hex_digit(d: u8) -> u8
 
 impl Front {
     // The empty text.
-    pub fn empty() -> Front
+    pub(crate) fn empty() -> Front
         ensures text { λ r. ⌜ text-of r ≡ [] ⌝ }
         ensures room { λ r. ⌜ r .start ≡ 64 ⌝ }
     {
@@ -30,7 +30,7 @@ impl Front {
     }
 
     // Puts one byte before the text.
-    pub fn put(&mut self, b: u8)
+    pub(crate) fn put(&mut self, b: u8)
         requires { ⌜ 1 ≤ now self .start ⌝ }
         ensures text { λ _. ⌜ text-of (now (self .exit)) ≡ b ∷ text-of (now (self .entry)) ⌝ }
         ensures room { λ _. ⌜ now (self .entry) .start ≡ now (self .exit) .start + 1 ⌝ }
@@ -40,7 +40,7 @@ impl Front {
     }
 
     // Puts bytes before the text.
-    pub fn put_all(&mut self, bytes: &[u8])
+    pub(crate) fn put_all(&mut self, bytes: &[u8])
         requires { ⌜ length (now bytes) ≤ now self .start ⌝ }
         ensures text { λ _. ⌜ text-of (now (self .exit)) ≡ now (bytes .entry) ++ text-of (now (self .entry)) ⌝ }
         ensures room { λ _. ⌜ now (self .entry) .start ≡ now (self .exit) .start + length (now (bytes .entry)) ⌝ }
@@ -53,7 +53,7 @@ impl Front {
     }
 
     // Puts the decimal digits of n before the text.
-    pub fn put_decimal(&mut self, n: u32)
+    pub(crate) fn put_decimal(&mut self, n: u32)
         requires { ⌜ 10 ≤ now self .start ⌝ }
         ensures text { λ _. ⌜ text-of (now (self .exit)) ≡ decimal n ++ text-of (now (self .entry)) ⌝ }
         ensures room { λ _. ⌜ now (self .entry) .start ≤ now (self .exit) .start + 10 ⌝ }
@@ -66,14 +66,14 @@ impl Front {
         self.put(b'0' + left as u8);
     }
 
-    // Puts the 16 hexadecimal digits of v before the text.
-    pub fn put_hex(&mut self, v: u64)
-        requires { ⌜ 16 ≤ now self .start ⌝ }
-        ensures text { λ _. ⌜ text-of (now (self .exit)) ≡ hex 16 v ++ text-of (now (self .entry)) ⌝ }
-        ensures room { λ _. ⌜ now (self .entry) .start ≡ now (self .exit) .start + 16 ⌝ }
+    // Puts the last `count` hexadecimal digits of v before the text.
+    pub(crate) fn put_digits(&mut self, v: u64, count: u8)
+        requires { ⌜ count ≤ now self .start ⌝ }
+        ensures text { λ _. ⌜ text-of (now (self .exit)) ≡ hex count v ++ text-of (now (self .entry)) ⌝ }
+        ensures room { λ _. ⌜ now (self .entry) .start ≡ now (self .exit) .start + count ⌝ }
     {
         let mut left = v;
-        let mut places = 16u8;
+        let mut places = count;
         while places > 0 {
             places -= 1;
             self.put(hex_digit((left % 16) as u8));
@@ -81,8 +81,17 @@ impl Front {
         }
     }
 
+    // Puts the 16 hexadecimal digits of v before the text.
+    pub(crate) fn put_hex(&mut self, v: u64)
+        requires { ⌜ 16 ≤ now self .start ⌝ }
+        ensures text { λ _. ⌜ text-of (now (self .exit)) ≡ hex 16 v ++ text-of (now (self .entry)) ⌝ }
+        ensures room { λ _. ⌜ now (self .entry) .start ≡ now (self .exit) .start + 16 ⌝ }
+    {
+        self.put_digits(v, 16);
+    }
+
     // Adds the text to a vector, or nothing.
-    pub fn add_to(&self, out: &mut Vec<u8>) -> Result<(), AllocError>
+    pub(crate) fn add_to(&self, out: &mut Vec<u8>) -> Result<(), AllocError>
         ensures { λ r. ⌜ Appended (now (out .entry)) (text-of (now (self .entry))) r (now (out .exit)) ⌝ }
     {
         out.extend_from_slice(&self.bytes[self.start..])

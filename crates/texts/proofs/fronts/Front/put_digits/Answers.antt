@@ -4,7 +4,7 @@ use Prim.Native.Nat.{_-_, _/_}
 use native.Mathlib.Omega.{arith}
 use Rattle.texts.specs.Fronts.{text-of, hex}
 use Rattle.texts.proofs.Fronted.{digit-more, hex-more, hex-none}
-use Rattle.texts.proofs.fronts.Front.put_hex.Needs as need
+use Rattle.texts.proofs.fronts.Front.put_digits.Needs as need
 
 pub loop-places-again : need.loop-places-again
 loop-places-again c =
