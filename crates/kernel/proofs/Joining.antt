@@ -7,24 +7,17 @@ use native.Mathlib.Omega.{arith}
 use lib.Dec.{eqb, ltb}
 use Rattle.std.proofs.shelf.Tests.{cases-eq, cases-lt, cases-bool, lt-ltb, le-ltb, eq-eqb, ne-eqb, false≢true, and-left, and-from, or-left, or-right, not-from-false, cond-true, cond-false}
 use Rattle.vectors.specs.Vectors.{in-vector, with, without}
+use Rattle.vectors.proofs.Bits.{and-false, or-false}
 use Rattle.vectors.proofs.Vectors.{in-none}
 
 -- the waiting tasks after those of v below c are added, but for those of the chain
 abbrev pub joined : ℕ → (ℕ → Bool) → (ℕ → Bool) → (ℕ → Bool) → ℕ → Bool
 joined c v old chained t = old t || (ltb t c && (v t && not (chained t)))
 
-or-none : (a : Bool) → a ≡ (a || false)
-or-none true = refl
-or-none false = refl
-
 and-drop : (a b : Bool) → (b ≡ true → a ≡ true) → (a && b) ≡ b
 and-drop true b h = refl
 and-drop false true h = h refl
 and-drop false false h = refl
-
-and-no : (a : Bool) → (a && false) ≡ false
-and-no true = refl
-and-no false = refl
 
 -- one more number changes nothing where its part says no
 past : (i k : ℕ) (x : Bool) → (k ≡ i → x ≡ false) → (ltb k (i + 1) && x) ≡ (ltb k i && x)
@@ -32,14 +25,14 @@ past i k true h = let ne : k ≡ i → ⊥ = λ q. false≢true (sym (h q)) in �
     (λ (l : k < i). ap (λ b. b && true) (lt-ltb k (i + 1) (omega arith) ∙ sym (lt-ltb k i l)))
     (λ (l : i ≤ k). ap (λ b. b && true) (le-ltb k (i + 1) (omega (arith, ne)) ∙ sym (le-ltb k i l)))
     (cases-lt k i)
-past i k false h = and-no (ltb k (i + 1)) ∙ sym (and-no (ltb k i))
+past i k false h = and-false (ltb k (i + 1)) ∙ sym (and-false (ltb k i))
 
 -- a task that has started is passed by
 pub passed : (t c : ℕ) (rest old chained : ℕ → Bool) → chained t ≡ true → joined c (without t rest) old chained ≡ joined c rest old chained
 passed t c rest old chained y = fun-ext (λ k. ⊎-elim
     (λ (q : k ≡ t).
     ap (λ b. old k || (ltb k c && ((not b && rest k) && not (chained k)))) (eq-eqb k t q)
-    ∙ sym (ap (λ b. old k || (ltb k c && (rest k && not b))) (ap chained q ∙ y) ∙ ap (λ b. old k || (ltb k c && b)) (and-no (rest k))))
+    ∙ sym (ap (λ b. old k || (ltb k c && (rest k && not b))) (ap chained q ∙ y) ∙ ap (λ b. old k || (ltb k c && b)) (and-false (rest k))))
     (λ (ne : k ≡ t → ⊥). ap (λ b. old k || (ltb k c && ((not b && rest k) && not (chained k)))) (ne-eqb k t ne))
     (cases-eq k t))
 
@@ -62,7 +55,7 @@ put-in t c rest old chained y n = ⊎-elim
 
 -- nothing is left
 pub all-there : (c : ℕ) (rest old chained : ℕ → Bool) → ((k : ℕ) → rest k ≡ false) → old ≡ joined c rest old chained
-all-there c rest old chained h = fun-ext (λ k. or-none (old k) ∙ sym (ap (λ b. old k || (ltb k c && (b && not (chained k)))) (h k) ∙ ap (λ b. old k || b) (and-no (ltb k c))))
+all-there c rest old chained h = fun-ext (λ k. sym (or-false (old k)) ∙ sym (ap (λ b. old k || (ltb k c && (b && not (chained k)))) (h k) ∙ ap (λ b. old k || b) (and-false (ltb k c))))
 
 -- the members below i
 abbrev pub below : ℕ → (ℕ → Bool) → ℕ → Bool

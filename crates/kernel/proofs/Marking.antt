@@ -1,7 +1,7 @@
 -- Marks in an array of vectors.
 use Prim.Native.Nat.{ℕ, _-_, _<_, _≤_}
-use mathlib.Core.Path.{_≡_, refl, sym, ap, _∙_, fun-ext}
-use mathlib.Core.Bool.{Bool, true, false, _||_, _&&_, not}
+use mathlib.Core.Path.{_≡_, sym, ap, _∙_, fun-ext}
+use mathlib.Core.Bool.{Bool, false, _||_, _&&_, not}
 use mathlib.Core.List.{List}
 use mathlib.Core.Logic.{_≢_, ⊎-elim}
 use lib.Dec.{eqb}
@@ -12,7 +12,7 @@ use Rattle.std.proofs.shelf.Lists.{getD-past}
 use Rattle.std.proofs.shelf.Tests.{cases-eq, eq-eqb, ne-eqb}
 use Rattle.vectors.specs.Vectors.{in-vector}
 use Rattle.kernel.specs.Changes.{marked-too, unmarked, unmarked-all}
-use Rattle.vectors.proofs.Bits.{shifted}
+use Rattle.vectors.proofs.Bits.{shifted, and-false}
 use Rattle.vectors.proofs.Vectors.{in-or, in-none, code-without}
 use Rattle.plan.proofs.Zeros.{zeros}
 
@@ -41,15 +41,11 @@ marks-clear ms e u l h = fun-ext (λ a. fun-ext (λ t. ⊎-elim
     ap (λ y. in-vector y t) s ∙ sym (ap (λ b. not (b && eqb t u) && in-vector (getD ms a 0) t) (ne-eqb a e ne)))
     (cases-eq a e)))
 
-and-none : (a : Bool) → (a && false) ≡ false
-and-none true = refl
-and-none false = refl
-
 pub no-marks : marks (replicate 32 0) ≡ (λ e t. false)
 no-marks = fun-ext (λ e. fun-ext (λ t. ap (λ v. in-vector v t) (zeros 32 e) ∙ in-none t))
 
 pub marks-gone : (m : ℕ → ℕ → Bool) → marks (replicate 32 0) ≡ unmarked-all m
-marks-gone m = no-marks ∙ fun-ext (λ e. fun-ext (λ t. sym (and-none (m e t))))
+marks-gone m = no-marks ∙ fun-ext (λ e. fun-ext (λ t. sym (and-false (m e t))))
 
 -- no mark beyond the events
 pub past-end : (ms : List ℕ) (e t : ℕ) → length ms ≤ e → marks ms e t ≡ false

@@ -15,7 +15,8 @@ use Rattle.plan.specs.declared.record.Plan.{Plan}
 use Rattle.machine.specs.Schedules.{head, tail, among, holds-any, higher, system-ceiling-under}
 use Rattle.machine.specs.Refusals.{same, holds-some}
 use Rattle.machine.specs.History.{ceiling-under}
-use Rattle.laws.proofs.Sets.{some-inj, some-none}
+use Rattle.vectors.proofs.Vectors.{some-inj}
+use Rattle.laws.proofs.Sets.{some-none}
 use Rattle.laws.proofs.Lists.{among-cases}
 use Rattle.kernel.specs.declared.held_lock.HeldLock.{HeldLock}
 use Rattle.kernel.specs.Lists.{newest-first, no-lock, entry-of, held-of}

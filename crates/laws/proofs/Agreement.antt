@@ -19,7 +19,8 @@ use Rattle.laws.proofs.Busy.{busy-under, busy}
 use Rattle.machine.specs.Refusals.{refusal}
 use Rattle.machine.specs.History.{Entry, History, told, made, runs, plan-of, holder-of, unfinished, unfinished-after, ended, ends, begins, given, changed-holder}
 use Rattle.vectors.proofs.Vectors.{highest-empties}
-use Rattle.laws.proofs.Sets.{some-none, false-from, Greatest, highest-some}
+use Rattle.vectors.proofs.Vectors.{Greatest, highest-some}
+use Rattle.laws.proofs.Sets.{some-none, false-from}
 use Rattle.laws.proofs.Lists.{Falling, unlocked}
 use Rattle.laws.proofs.Allowances.{allows}
 use Rattle.laws.proofs.Invariant.{Shape, Suits, Settled, Empty, Stands, Good, Allowed, someone-runs, start-busy, step-good}

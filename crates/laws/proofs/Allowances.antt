@@ -21,7 +21,8 @@ use Rattle.machine.specs.Machine.{Machine, answered}
 use Rattle.machine.specs.Refusals.{tasks-of, may-lock, refuse-if, present, absent, same, stray, holds-some, resources-of, events-of, too-small, refusal}
 use Rattle.machine.specs.History.{accepted}
 use Rattle.vectors.proofs.Vectors.{highest-empties, in-small, none-strays}
-use Rattle.laws.proofs.Sets.{some-none, highest-some}
+use Rattle.vectors.proofs.Vectors.{highest-some}
+use Rattle.laws.proofs.Sets.{some-none}
 use Rattle.laws.proofs.Invariant.{Asked, Allowed}
 
 pub not-refused : {A : Type 0} (b : Bool) (x : A) (o : Option A) → refuse-if b x o ≡ None → (b ≡ false) × (o ≡ None)

@@ -24,7 +24,8 @@ use Rattle.machine.specs.Refusals.{refuse-if, present, absent, too-small, refus
 use Rattle.machine.specs.History.{Entry, History, accepted, plan-of, holder-of, unfinished, begins, ends, Held-since, ceiling-under, Holds-up}
 use Rattle.machine.specs.Laws.{history, Set, Can-hold-up, Shown, Exact}
 use Rattle.vectors.proofs.Vectors.{highest-empties, highest-none, in-small}
-use Rattle.laws.proofs.Sets.{highest-some, greatest-is, false-from, all-pass, own-bit, one-bit}
+use Rattle.vectors.proofs.Vectors.{highest-some}
+use Rattle.laws.proofs.Sets.{greatest-is, false-from, all-pass, own-bit, one-bit}
 use Rattle.laws.proofs.Lists.{under-here, user-declared, user-in-range}
 use Rattle.laws.proofs.Invariant.{Allowed, block}
 use Rattle.laws.proofs.Allowances.{passes, none-refused, allows}

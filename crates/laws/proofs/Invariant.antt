@@ -18,7 +18,8 @@ use Rattle.laws.proofs.Busy.{busy}
 use Rattle.machine.specs.Refusals.{tasks-of, may-lock}
 use Rattle.machine.specs.History.{given}
 use Rattle.vectors.proofs.Vectors.{highest-empties}
-use Rattle.laws.proofs.Sets.{some-none, false-from, Greatest, highest-some}
+use Rattle.vectors.proofs.Vectors.{Greatest, highest-some}
+use Rattle.laws.proofs.Sets.{some-none, false-from}
 use Rattle.laws.proofs.Lists.{among-cases, among-there, Falling, falling-tail, top, head-among, tail-among, among-tail, holder-cases, Single, single-tail, Nested, nested-tail, holder-tail, holds-none, reaches-down, under-ceiling, under-there, not-under, under-down}
 
 -- whatever the plan

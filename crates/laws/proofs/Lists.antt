@@ -13,8 +13,10 @@ use Rattle.plan.specs.declared.record.Plan.{Plan}
 use Rattle.vectors.specs.Vectors.{in-vector}
 use Rattle.plan.specs.Plans.{declares, uses, ceiling, reaches}
 use Rattle.machine.specs.Schedules.{head, tail, among, holder, holds-any, newest, higher, system-ceiling}
+use Rattle.vectors.proofs.Bits.{or-false}
 use Rattle.vectors.proofs.Vectors.{highest-empties, in-small, in-none}
-use Rattle.laws.proofs.Sets.{some-inj, some-none, highest-some}
+use Rattle.vectors.proofs.Vectors.{some-inj, highest-some}
+use Rattle.laws.proofs.Sets.{some-none}
 
 -- chains
 
@@ -124,10 +126,6 @@ unlocked (x ∷ xs) r f e s = go (eqb s r) refl
 
 -- ceilings
 
-or-none : (a : Bool) → (a || false) ≡ a
-or-none true = refl
-or-none false = refl
-
 pub reaches-down : (o : Option ℕ) (s t : ℕ) → s ≤ t → reaches o t ≡ true → reaches o s ≡ true
 reaches-down None s t h e = e
 reaches-down (Some c) s t h e = let q = leb-true t c e in le-leb s c (omega arith)
@@ -135,7 +133,7 @@ reaches-down (Some c) s t h e = let q = leb-true t c e in le-leb s c (omega arit
 -- a level that is the higher of two reaches what either reaches
 pub reaches-higher : (a b : Option ℕ) (t : ℕ) → reaches (higher a b) t ≡ (reaches a t || reaches b t)
 reaches-higher None b t = refl
-reaches-higher (Some x) None t = sym (or-none (leb t x))
+reaches-higher (Some x) None t = sym (or-false (leb t x))
 reaches-higher (Some x) (Some y) t =
     ⊎-elim
     (λ (l : x < y).

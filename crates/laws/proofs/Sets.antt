@@ -1,19 +1,16 @@
 -- Options, the greatest member of a set, strays, and the vector of one task.
-use mathlib.Core.Path.{_≡_, refl, subst}
+use mathlib.Core.Path.{_≡_, refl}
 use mathlib.Core.Logic.{⊎-elim}
-use mathlib.Core.Bool.{Bool, true, false, _&&_, not, cond}
+use mathlib.Core.Bool.{Bool, true, false, _&&_, not}
 use Prim.Native.Nat.{ℕ, zero, suc, _^_, _<_, _≤_}
 use native.Mathlib.Omega.{arith}
 use lib.Dec.{eqb, ltb}
-use Rattle.std.proofs.shelf.Tests.{both-ways, not-true, eqb-true, lt-ltb, eq-eqb, and-parts, or-from, and-from, cases-order, cases-eq}
+use Rattle.std.proofs.shelf.Tests.{both-ways, not-true, eqb-true, lt-ltb, eq-eqb, and-parts, or-from, and-from, cases-eq}
 use Rattle.std.specs.declared.option.Option.{Option}
 use Rattle.std.specs.declared.option.Option.the-variants.{Some, None}
 use Rattle.vectors.specs.Vectors.{in-vector, highest, some, strays}
 use Rattle.vectors.proofs.Bits.{bit, bit-one, bit-apart}
-use Rattle.vectors.proofs.Vectors.{highest-is}
-
-pub some-inj : (a b : ℕ) → Some a ≡ Some b → a ≡ b
-some-inj a b e = cc
+use Rattle.vectors.proofs.Vectors.{Greatest, highest-is}
 
 pub some-none : {A : Type 0} (a : A) (o : Option A) → o ≡ Some a → o ≡ None → ⊥
 some-none a o e f = let z : _≡_ {A = ℕ} 0 1 = cc in omega arith
@@ -23,30 +20,6 @@ false-from true h = absurd (h refl)
 false-from false h = refl
 
 -- the greatest member below n
-
-pub record Greatest (n : ℕ) (m : ℕ → Bool) (w : ℕ) : Type 0 where
-  pub member : m w ≡ true
-  pub within : w < n
-  pub top : (k : ℕ) → k < n → m k ≡ true → k ≤ w
-
-pub highest-some : (n : ℕ) (m : ℕ → Bool) (w : ℕ) → highest n m ≡ Some w → Greatest n m w
-unfolding highest
-highest-some zero m w e = absurd (some-none w None e refl)
-highest-some (suc n) m w e = go (highest-some n m w) (m n) refl e
-  where
-    go : (highest n m ≡ Some w → Greatest n m w) → (b : Bool) → m n ≡ b → cond b (Some n) (highest n m) ≡ Some w → Greatest (suc n) m w
-    go ih true q f =
-        let x : n ≡ w = some-inj n w f in
-        record { member = subst (λ (k : ℕ). m k ≡ true) x q; within = omega arith; top = λ k h _. omega arith }
-    go ih false q f =
-        let g = ih f in
-        record {
-          member = g .member;
-          within = omega arith;
-          top = λ k h e.
-              ⊎-elim (λ (z : k ≡ n). absurd (both-ways (m n) q (subst (λ (i : ℕ). m i ≡ true) z e)))
-              (⊎-elim (λ (z : k < n). g .top k z e) (λ (z : n < k). omega arith)) (cases-order k n);
-        }
 
 pub greatest-is : (n : ℕ) (m : ℕ → Bool) (w : ℕ) → Greatest n m w → highest n m ≡ Some w
 greatest-is n m w g = highest-is n w m (g .within) (g .member) (λ k a b. false-from (m k) (λ e. let z : k ≤ w = g .top k b e in omega arith))

@@ -1,25 +1,15 @@
 -- The highest of two sets, the second above the first.
 use Prim.Native.Nat.{ℕ, zero, suc, _+_, _-_, _<_, _≤_}
-use mathlib.Core.Path.{_≡_, refl, sym, ap, _∙_}
-use mathlib.Core.Bool.{Bool, true, false, cond}
-use mathlib.Core.Logic.{_⊎_, ⊎-elim}
+use mathlib.Core.Path.{_≡_, refl, ap, _∙_}
+use mathlib.Core.Bool.{Bool, false, cond}
 use native.Mathlib.Omega.{arith}
 use native.Mathlib.Nat.{add-zero, add-suc}
 use lib.Dec.{leb, ltb}
-use Rattle.std.specs.declared.option.Option.{Option}
 use Rattle.std.specs.declared.option.Option.the-variants.{Some, None}
-use Rattle.std.proofs.shelf.Tests.{cases-eq, cases-bool, lt-ltb, le-ltb, le-leb, cond-true, cond-false}
+use Rattle.std.proofs.shelf.Tests.{lt-ltb, le-ltb, le-leb, cond-true, cond-false}
 use Rattle.vectors.specs.Vectors.{highest}
-use Rattle.vectors.proofs.Vectors.{highest-tells, highest-is, highest-empties}
+use Rattle.vectors.proofs.Vectors.{highest-tells, highest-is, highest-empties, none-above}
 use Rattle.sets.specs.Pairs.{pair-room, pair-holds}
-
-pub none-above : (n x : ℕ) (m : ℕ → Bool) → highest n m ≡ Some x → (k : ℕ) → x < k → k < n → m k ≡ false
-unfolding highest
-none-above zero x m e k a l = absurd (omega arith)
-none-above (suc n) x m e k a l = ⊎-elim
-    (λ (y : m n ≡ true). let q : x ≡ n = (let s : _≡_ {A = Option ℕ} (Some n) (Some x) = sym (cond-true (m n) (Some n) (highest n m) y) ∙ e in cc) in absurd (omega arith))
-    (λ (f : m n ≡ false). ⊎-elim (λ (q : k ≡ n). ap m q ∙ f) (λ ne. none-above n x m (sym (cond-false (m n) (Some n) (highest n m) f) ∙ e) k a (omega arith)) (cases-eq k n))
-    (cases-bool (m n))
 
 highest-same : (n : ℕ) (m m′ : ℕ → Bool) → ((k : ℕ) → k < n → m k ≡ m′ k) → highest n m ≡ highest n m′
 unfolding highest

@@ -9,7 +9,7 @@ use lib.Pow.{pow-pos, pow-lt, pow-mono, shr-shr, field, mod-mod-pow}
 use mathlib.Core.Bool.{Bool, true, false, _||_, _&&_, not}
 use lib.Dec.{eqb}
 use Rattle.std.proofs.shelf.Bits.{one-shl}
-use Rattle.std.proofs.shelf.Tests.{cases-eq, cases-lt, eq-eqb, ne-eqb}
+use Rattle.std.proofs.shelf.Tests.{cases-eq, cases-lt, eq-eqb, ne-eqb, and-right}
 use Rattle.std.proofs.shelf.Ways.{tells}
 use Rattle.vectors.specs.Vectors.{on}
 
@@ -99,9 +99,12 @@ on-one t k =
     (λ (ne : k ≡ t → ⊥). ne-eqb (bit (2 ^ t) k) 1 (omega (arith, bit-apart t k ne)) ∙ sym (ne-eqb k t ne))
     (cases-eq k t)
 
-and-no : (a : Bool) → (a && false) ≡ false
-and-no true = refl
-and-no false = refl
+pub and-false : (a : Bool) → (a && false) ≡ false
+and-false a = and-right a false refl
+
+pub or-false : (a : Bool) → (a || false) ≡ a
+or-false true = refl
+or-false false = refl
 
 -- as code writes `1 << t`, in w bits
 abbrev pub shifted : ℕ → ℕ → ℕ
@@ -126,8 +129,8 @@ switch-off w x k j small h =
     (λ (l : j < w). switch-off-low w x k j h l)
     (λ (l : w ≤ j).
     let off = on-above x w j small l in
-    on-and x ((2 ^ w - 1) - shifted w k) j ∙ ap (λ b. on ((2 ^ w - 1) - shifted w k) j && b) off ∙ and-no (on ((2 ^ w - 1) - shifted w k) j)
-    ∙ sym (ap (λ b. not (eqb j k) && b) off ∙ and-no (not (eqb j k))))
+    on-and x ((2 ^ w - 1) - shifted w k) j ∙ ap (λ b. on ((2 ^ w - 1) - shifted w k) j && b) off ∙ and-false (on ((2 ^ w - 1) - shifted w k) j)
+    ∙ sym (ap (λ b. not (eqb j k) && b) off ∙ and-false (not (eqb j k))))
     (cases-lt j w)
 
 -- `(x >> k) & 1 == 1` asks for bit k

@@ -1,7 +1,7 @@
 -- Task vectors in code: one bit set, one bit cleared, the highest.
 use Prim.Native.Nat.{ℕ, zero, suc, _+_, _-_, _*_, _/_, _%_, _^_, _<_, _≤_, min}
 use mathlib.Core.Path.{_≡_, refl, sym, ap, _∙_, subst, fun-ext}
-use mathlib.Core.Bool.{Bool, true, false, _&&_, _||_, not}
+use mathlib.Core.Bool.{Bool, true, false, _&&_, _||_, not, cond}
 use mathlib.Core.Logic.{_⊎_, ⊎-elim}
 use native.Mathlib.Omega.{arith}
 use lib.Dec.{eqb, ltb}
@@ -10,7 +10,7 @@ use lib.Count.{leadingZeros, leading-top}
 use lib.Pow.{pow-pos, pow-lt, pow-mono, shr-lt, split}
 use Rattle.std.specs.declared.option.Option.{Option}
 use Rattle.std.specs.declared.option.Option.the-variants.{Some, None}
-use Rattle.std.proofs.shelf.Tests.{cases-eq, cases-lt, lt-ltb, le-ltb, eq-eqb, ne-eqb, and-parts, ltb-true, eqb-true, eqb-false, cases-bool, cond-true, cond-false, or-parts, or-from, not-false, not-true, or-cases, false≢true}
+use Rattle.std.proofs.shelf.Tests.{cases-eq, cases-lt, lt-ltb, le-ltb, eq-eqb, ne-eqb, and-parts, ltb-true, eqb-true, eqb-false, cases-bool, cases-order, both-ways, cond-true, cond-false, or-parts, or-from, not-false, not-true, or-cases, false≢true}
 use Rattle.std.proofs.shelf.Ways.{tells}
 use Rattle.vectors.specs.Vectors.{on, in-vector, vector-of, with, without, highest, some, strays}
 use native.Mathlib.Nat.{pow-suc, mod-lt}
@@ -129,14 +129,40 @@ strays-is v w big wide = ⊎-elim
     (cases-bool (strays v (in-vector w))))
     (cases-eq (bitAnd v (18446744073709551615 - w)) 0)
 
--- what is highest is a member, and below the bound
-pub highest-tells : (n w : ℕ) (m : ℕ → Bool) → highest n m ≡ Some w → (w < n) × (m w ≡ true)
+pub some-inj : (a b : ℕ) → Some a ≡ Some b → a ≡ b
+some-inj a b e = cc
+
+-- the greatest member below n
+pub record Greatest (n : ℕ) (m : ℕ → Bool) (w : ℕ) : Type 0 where
+  pub member : m w ≡ true
+  pub within : w < n
+  pub top : (k : ℕ) → k < n → m k ≡ true → k ≤ w
+
+pub highest-some : (n : ℕ) (m : ℕ → Bool) (w : ℕ) → highest n m ≡ Some w → Greatest n m w
 unfolding highest
-highest-tells zero w m e = let z : _≡_ {A = ℕ} 0 1 = cc in absurd (omega arith)
-highest-tells (suc n) w m e = ⊎-elim
-    (λ (y : m n ≡ true). let q : w ≡ n = (let s : _≡_ {A = Option ℕ} (Some n) (Some w) = sym (cond-true (m n) (Some n) (highest n m) y) ∙ e in cc) in (omega arith, ap m q ∙ y))
-    (λ (f : m n ≡ false). let t = highest-tells n w m (sym (cond-false (m n) (Some n) (highest n m) f) ∙ e) in (omega (arith, t .0), t .1))
-    (cases-bool (m n))
+highest-some zero m w e = absurd (let z : _≡_ {A = ℕ} 0 1 = cc in omega arith)
+highest-some (suc n) m w e = go (highest-some n m w) (m n) refl e
+  where
+    go : (highest n m ≡ Some w → Greatest n m w) → (b : Bool) → m n ≡ b → cond b (Some n) (highest n m) ≡ Some w → Greatest (suc n) m w
+    go ih true q f =
+        let x : n ≡ w = some-inj n w f in
+        record { member = subst (λ (k : ℕ). m k ≡ true) x q; within = omega arith; top = λ k h _. omega arith }
+    go ih false q f =
+        let g = ih f in
+        record {
+          member = g .member;
+          within = omega arith;
+          top = λ k h e.
+              ⊎-elim (λ (z : k ≡ n). absurd (both-ways (m n) q (subst (λ (i : ℕ). m i ≡ true) z e)))
+              (⊎-elim (λ (z : k < n). g .top k z e) (λ (z : n < k). omega arith)) (cases-order k n);
+        }
+
+-- what is highest is a member and below the bound, and nothing above it is a member
+pub highest-tells : (n w : ℕ) (m : ℕ → Bool) → highest n m ≡ Some w → (w < n) × (m w ≡ true)
+highest-tells n w m e = let g = highest-some n m w e in (g .within, g .member)
+
+pub none-above : (n x : ℕ) (m : ℕ → Bool) → highest n m ≡ Some x → (k : ℕ) → x < k → k < n → m k ≡ false
+none-above n x m e k a l = ⊎-elim (λ (y : m k ≡ true). absurd (omega (arith, highest-some n m x e .top k l y))) (λ (f : m k ≡ false). f) (cases-bool (m k))
 
 pub in-or : (a b k : ℕ) → in-vector (bitOr a b) k ≡ (in-vector b k || in-vector a k)
 in-or a b k = let e = on-or a b k in grind (arith, tells)
