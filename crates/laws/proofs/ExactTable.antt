@@ -248,10 +248,10 @@ module _ (p : Plan) (l t r : ℕ) (c : ℕ) (w : ℕ → Bool) (x : Case p l t r
       }
 
 -- a new kernel of 64 tasks takes every plan that declares a task
-nobody-waits : Set 64 (λ (k : ℕ). false)
+pub nobody-waits : Set 64 (λ (k : ℕ). false)
 nobody-waits = record { small = omega arith; inside = λ t e. absurd (both-ways false refl e) }
 
-takes : (p : Plan) (t : ℕ) → declares p t ≡ true → refusal (Install p) (fresh 64 (λ (k : ℕ). false) .schedule) ≡ None
+pub takes : (p : Plan) (t : ℕ) → declares p t ≡ true → refusal (Install p) (fresh 64 (λ (k : ℕ). false) .schedule) ≡ None
 takes p t e = go (highest 64 (declares p)) refl
   where
     go : (o : Option ℕ) → highest 64 (declares p) ≡ o

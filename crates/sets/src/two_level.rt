@@ -71,7 +71,8 @@ pub impl WaitingSet for TwoLevelSet as TwoLevelWaiting {
             let row = position / 8;
             let left = switched_off(self.rows[row as usize], position % 8);
             self.rows[row as usize] = left;
-            if left == 0 {
+            let emptied = left == 0;
+            if emptied {
                 self.group = switched_off(self.group, row);
             }
             true

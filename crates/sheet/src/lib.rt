@@ -1,0 +1,2 @@
+// The blocking sheet of a plan: its blocking table, entry by entry, with the run that shows each.
+pub mod entries;
