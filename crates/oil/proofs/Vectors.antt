@@ -9,8 +9,9 @@ use lib.Bits.{bitOr}
 use lib.Dec.{eqb}
 use lib.ListN.{length}
 use Rattle.std.proofs.shelf.Tests.{cases-bool, eqb-true, eqb-false, eq-eqb, or-cases, or-left, or-right, both-ways}
-use Rattle.vectors.specs.Vectors.{in-vector}
-use Rattle.vectors.proofs.Vectors.{in-with, in-none}
+use Rattle.vectors.specs.Vectors.{in-vector, with}
+use Rattle.vectors.proofs.Bits.{shifted-is}
+use Rattle.vectors.proofs.Vectors.{code-with, in-none}
 use Rattle.oil.specs.Meaning.{At, In, vector-from}
 
 module _ {X : Type 0} where
@@ -59,6 +60,10 @@ found-none = record { there = λ k h. absurd (h .1); only = λ k h. absurd (both
 
 pub cases-nat : (a b : ℕ) → (a ≡ b) ⊎ (a ≡ b → ⊥)
 cases-nat a b = ⊎-elim (λ y. inl (eqb-true a b y)) (λ n. inr (λ e. eqb-false a b n e)) (cases-bool (eqb a b))
+
+-- A vector and one task more.
+in-with : (v p : ℕ) → p < 64 → in-vector (bitOr v (2 ^ p)) ≡ with p (in-vector v)
+in-with v p low = ap (λ b. in-vector (bitOr v b)) (sym (shifted-is 64 p low)) ∙ code-with v p low
 
 pub found-more : (v : ℕ) (ps : List ℕ) (p : ℕ) → p < 64 → Found v ps → Found (bitOr v (2 ^ p)) (ps ++ (p ∷ []))
 found-more v ps p low f =

@@ -1,21 +1,14 @@
 -- Laws of a text that grows at its front.
 use mathlib.Core.Path.{_≡_, refl, sym, ap, _∙_}
-use mathlib.Core.Bool.{cond}
 use mathlib.Core.List.{List, [], _∷_, _++_, append-assoc}
 use Prim.Native.Nat.{ℕ, zero, suc, _+_, _-_, _/_, _%_, _^_, _≤_, _<_}
 use native.Mathlib.Omega.{arith}
 use lib.ListN.{length, getD, drop, set}
-use Rattle.std.specs.declared.alloc.AllocError.{AllocError}
-use Rattle.std.specs.declared.result.Result.{Result}
-use Rattle.std.specs.declared.result.Result.the-variants.{Ok, Err}
-use Rattle.std.specs.declared.vec.Vec.{Vec}
-use Rattle.std.specs.Of.Vec.{vec-items, vec-len, vec-cap}
-use Rattle.std.specs.Results.{isOk, Cases}
 use Rattle.std.specs.Text.{digitChar}
 use Rattle.std.specs.Written.{decimal}
 use Rattle.std.proofs.shelf.Decimals.{decimal-step}
 use Rattle.std.proofs.shelf.Lists.{drop-set, drop-more, length-push}
-use Rattle.texts.specs.Fronts.{hex, Appended}
+use Rattle.texts.specs.Fronts.{hex}
 
 -- A byte that is set right before what stands from a place on.
 pub set-before : (bs : List ℕ) (start b : ℕ) → 1 ≤ start → start ≤ length bs → drop (start - 1) (set bs (start - 1) b) ≡ b ∷ drop start bs
@@ -45,9 +38,3 @@ hex-none (suc k) n none = absurd (omega arith)
 
 pub length-decimal-step : (n : ℕ) → 10 ≤ n → n < 2 ^ 64 → length (decimal n) ≡ length (decimal (n / 10)) + 1
 length-decimal-step n more small = ap length (decimal-step n more small) ∙ length-push (decimal (n / 10)) (48 + n % 10)
-
--- What `extend_from_slice` says of its vector.
-pub appended : {Z : Type 0} (v w : Vec ℕ Z) (bs : List ℕ) (r : Result (Unit {0}) AllocError) → vec-items w ≡ cond (isOk r) (vec-items v ++ bs) (vec-items v) →
-    Cases r (λ _. vec-len w ≡ vec-len v + length bs) (λ _. vec-cap v < vec-len v + length bs) → Appended v bs r w
-appended v w bs (Ok x) e h = e
-appended v w bs (Err x) e h = (e, h)

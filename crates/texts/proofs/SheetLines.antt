@@ -11,7 +11,7 @@ use Rattle.std.specs.Written.{decimal}
 use Rattle.std.proofs.shelf.Lists.{append-assoc}
 use Rattle.texts.specs.declared.outcomes.Report.{Report}
 use Rattle.texts.specs.declared.sheets.ShownCall.{ShownCall}
-use Rattle.texts.specs.Fronts.{Appended}
+use Rattle.texts.specs.Outputs.{Appended}
 use Rattle.texts.specs.Lines.{field}
 use Rattle.texts.specs.Sheets.{call-text, entry-part, report-part, sheet-line}
 

@@ -6,6 +6,7 @@ pub mod Verbs
 pub mod Requests
 pub mod Spells
 pub mod Fronts
+pub mod Outputs
 pub mod Outcomes
 pub mod Lines
 pub mod Spelling

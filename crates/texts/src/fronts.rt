@@ -7,7 +7,7 @@ pub mod puts;
 // The text is what stands from `start` on.
 #[derive(Drop)]
 pub struct Front {
-    bytes: [u8; 64],
+    bytes: [u8; 128],
     start: usize,
-    ghost within: { start ≤ 64 },
+    ghost within: { start ≤ 128 },
 }

@@ -24,9 +24,9 @@ pub enum ShownCall {
 
 // Puts the call before the text: a task's vector is written without leading zeros.
 fn put_call(text: &mut Front, call: ShownCall)
-    requires { ⌜ 24 ≤ now text .start ⌝ }
+    requires { ⌜ 25 ≤ now text .start ⌝ }
     ensures text { λ _. ⌜ text-of (now (text .exit)) ≡ call-text call ++ text-of (now (text .entry)) ⌝ }
-    ensures room { λ _. ⌜ now (text .entry) .start ≤ now (text .exit) .start + 24 ⌝ }
+    ensures room { λ _. ⌜ now (text .entry) .start ≤ now (text .exit) .start + 25 ⌝ }
 {
     match call {
         ShownCall::Release(t) => {
@@ -35,7 +35,7 @@ fn put_call(text: &mut Front, call: ShownCall)
             text.put_all(b"release ");
         }
         ShownCall::Lock(r) => {
-            text.put_decimal(r as u32);
+            text.put_decimal(r as u64);
             text.put_all(b"lock ");
         }
     }
@@ -48,9 +48,9 @@ fn entry_text(low: u8, high: u8, resource: u16, call: ShownCall) -> Front
     let mut text = Front::empty();
     text.put(b',');
     put_call(&mut text, call);
-    put_number(&mut text, resource as u32);
-    put_number(&mut text, high as u32);
-    put_number(&mut text, low as u32);
+    put_number(&mut text, resource as u64);
+    put_number(&mut text, high as u64);
+    put_number(&mut text, low as u64);
     text
 }
 
@@ -61,11 +61,11 @@ fn report_text(report: &Report) -> Front
     let mut text = Front::empty();
     text.put_all(b"\r\n");
     if let Some(c) = report.ceiling {
-        text.put_decimal(c as u32);
+        text.put_decimal(c as u64);
     }
     put_vector(&mut text, report.waiting);
     put_optional(&mut text, report.running);
-    put_number(&mut text, report.outcome.number() as u32);
+    put_number(&mut text, report.outcome.number() as u64);
     text
 }
 

@@ -53,7 +53,7 @@ fn number_text(verb: Verb, n: u16, v: Option<u64>) -> Option<Front>
     }
     let mut text = Front::empty();
     put_vector(&mut text, v);
-    text.put_decimal(n as u32);
+    text.put_decimal(n as u64);
     text.put(b',');
     text.put_all(verb.word());
     Some(text)

@@ -5,8 +5,10 @@ ghost use Prim.Native.Nat.{_+_, _<_, _≤_};
 ghost use lib.ListN.{length};
 ghost use Rattle.std.specs.Written.{decimal};
 ghost use Rattle.std.specs.Text.{digitChar};
-ghost use Rattle.texts.specs.Fronts.{text-of, hex, Appended};
+ghost use Rattle.texts.specs.Fronts.{text-of, hex};
+ghost use Rattle.texts.specs.Outputs.{Appended};
 use crate::fronts::Front;
+use crate::outputs::add;
 use std::alloc::AllocError;
 
 // The small hexadecimal digit that writes d.
@@ -21,11 +23,11 @@ impl Front {
     // The empty text.
     pub(crate) fn empty() -> Front
         ensures text { λ r. ⌜ text-of r ≡ [] ⌝ }
-        ensures room { λ r. ⌜ r .start ≡ 64 ⌝ }
+        ensures room { λ r. ⌜ r .start ≡ 128 ⌝ }
     {
         Front {
-            bytes: [0; 64],
-            start: 64,
+            bytes: [0; 128],
+            start: 128,
         }
     }
 
@@ -53,10 +55,10 @@ impl Front {
     }
 
     // Puts the decimal digits of n before the text.
-    pub(crate) fn put_decimal(&mut self, n: u32)
-        requires { ⌜ 10 ≤ now self .start ⌝ }
+    pub(crate) fn put_decimal(&mut self, n: u64)
+        requires { ⌜ 20 ≤ now self .start ⌝ }
         ensures text { λ _. ⌜ text-of (now (self .exit)) ≡ decimal n ++ text-of (now (self .entry)) ⌝ }
-        ensures room { λ _. ⌜ now (self .entry) .start ≤ now (self .exit) .start + 10 ⌝ }
+        ensures room { λ _. ⌜ now (self .entry) .start ≤ now (self .exit) .start + 20 ⌝ }
     {
         let mut left = n;
         while left >= 10 {
@@ -94,6 +96,6 @@ impl Front {
     pub(crate) fn add_to(&self, out: &mut Vec<u8>) -> Result<(), AllocError>
         ensures { λ r. ⌜ Appended (now (out .entry)) (text-of (now (self .entry))) r (now (out .exit)) ⌝ }
     {
-        out.extend_from_slice(&self.bytes[self.start..])
+        add(out, &self.bytes[self.start..])
     }
 }

@@ -1,7 +1,7 @@
 use mathlib.Core.Path.{subst, ap, _∙_}
 use mathlib.Core.List.{_++_}
 use Rattle.std.specs.Of.Vec.{vec-items}
-use Rattle.texts.specs.Fronts.{Appended}
+use Rattle.texts.specs.Outputs.{Appended}
 use Rattle.texts.proofs.SheetLines.{both-parts}
 use Rattle.texts.proofs.sheets.push_sheet_line.Needs as need
 

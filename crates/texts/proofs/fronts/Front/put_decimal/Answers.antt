@@ -10,7 +10,7 @@ use Rattle.texts.proofs.Fronted.{digit-more, length-decimal-step}
 use Rattle.texts.proofs.fronts.Front.put_decimal.Needs as need
 
 pub put-requires : need.put-requires
-put-requires c κs = omega (arith, length-decimal-le 10 (c .args .n) (omega arith) (omega arith) (omega arith), decimal-some (c .loop-left .left) (omega arith))
+put-requires c κs = omega (arith, length-decimal-le 20 (c .args .n) (omega arith) (omega arith) (omega arith), decimal-some (c .loop-left .left) (omega arith))
 
 pub loop-left-again : need.loop-left-again
 loop-left-again c =
@@ -21,12 +21,12 @@ loop-left-again c =
     )
 
 pub put-requires-2 : need.put-requires-2
-put-requires-2 c κs = omega (arith, length-decimal-le 10 (c .args .n) (omega arith) (omega arith) (omega arith), decimal-some (c .loop-left .left) (omega arith))
+put-requires-2 c κs = omega (arith, length-decimal-le 20 (c .args .n) (omega arith) (omega arith) (omega arith), decimal-some (c .loop-left .left) (omega arith))
 
 pub returns : need.returns
 returns c =
     let n = c .loop-left .left in
     record {
       text = digit-more (decimal n) [] _ _ _ (48 + n) (decimal-digit n (omega arith)) (c .put-2 .ensures .text) (c .loop-left .inv .1);
-      room = omega (arith, length-decimal-le 10 (c .args .n) (omega arith) (omega arith) (omega arith), ap length (decimal-digit n (omega arith)));
+      room = omega (arith, length-decimal-le 20 (c .args .n) (omega arith) (omega arith) (omega arith), ap length (decimal-digit n (omega arith)));
     }

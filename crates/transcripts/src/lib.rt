@@ -1,0 +1,2 @@
+// Whole runs as text: a kernel served with the records of an input, a line for each.
+pub mod service;
