@@ -1,2 +1,3 @@
 // Whole runs as text: a kernel served with the records of an input, a line for each.
+pub mod runs;
 pub mod service;
