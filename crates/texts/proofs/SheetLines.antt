@@ -25,5 +25,5 @@ parts l t r q rest =
 pub both-parts : {Z E : Type 0} (l t r : ℕ) (q : ShownCall) (x : Report) (before : List ℕ) (v w : Vec ℕ Z) (o : Result (Unit {0}) E)
     → vec-items v ≡ before ++ entry-part l t r q [] → Appended v (report-part x) o w → made o (λ _. vec-items w ≡ before ++ sheet-line l t r q x)
 both-parts l t r q x before v w (Ok y) e a =
-    a ∙ ap (λ bs. bs ++ report-part x) e ∙ append-assoc before (entry-part l t r q []) (report-part x) ∙ ap (λ bs. before ++ bs) (parts l t r q (report-part x))
+    a .0 ∙ ap (λ bs. bs ++ report-part x) e ∙ append-assoc before (entry-part l t r q []) (report-part x) ∙ ap (λ bs. before ++ bs) (parts l t r q (report-part x))
 both-parts l t r q x before v w (Err y) e a = tt
