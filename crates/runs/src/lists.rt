@@ -17,6 +17,7 @@ use std::alloc::AllocError;
 use std::alloc::Global;
 
 // A kernel after a list of calls, and its answer to each.
+#[derive(Drop)]
 pub struct Finished<R: WaitingSet> {
     pub kernel: Kernel<R>,
     pub answers: Vec<Result<Reply, Refusal>>,

@@ -4,8 +4,10 @@ ghost use mathlib.Core.Bool.{Bool};
 ghost use Prim.Native.Nat.{ℕ};
 ghost use Rattle.kernel.specs.Meaning.{meaning};
 ghost use Rattle.texts.specs.Requests.{asked};
-ghost use Rattle.transcripts.specs.Reports.{report-on, after-record, report-after};
+ghost use Rattle.transcripts.specs.Reports.{report-on, report-with as told-with, after-record, report-after};
 use kernel::kernel::Kernel;
+use machine::Refusal;
+use machine::Reply;
 use sets::waiting::WaitingSet;
 use texts::outcomes::Outcome;
 use texts::outcomes::Report;
@@ -24,6 +26,16 @@ fn report<R: WaitingSet>(kernel: &Kernel<R>, outcome: Outcome, mark: Option<bool
     }
 }
 
+// What a kernel tells after a call that it gave this answer.
+pub fn report_with<R: WaitingSet>(kernel: &Kernel<R>, answer: Result<Reply, Refusal>) -> Report
+    ensures { λ r. ⌜ r ≡ told-with answer (meaning room holds (now (kernel .entry))) ⌝ }
+{
+    match answer {
+        Ok(reply) => report(kernel, Outcome::Accepted, reply.mark),
+        Err(why) => report(kernel, Outcome::Refused(why), None),
+    }
+}
+
 // Serves a record. One that spells no call leaves the kernel as it was.
 pub fn serve<R: WaitingSet>(kernel: &mut Kernel<R>, text: &[u8]) -> Report
     ensures after { λ r. ⌜ meaning room holds (now (kernel .exit)) ≡ after-record (asked (now (text .entry))) (meaning room holds (now (kernel .entry))) ⌝ }
@@ -32,8 +44,6 @@ pub fn serve<R: WaitingSet>(kernel: &mut Kernel<R>, text: &[u8]) -> Report
     let Some(call) = read_call(text) else {
         return report(kernel, Outcome::Unreadable, None);
     };
-    match kernel.call(&call) {
-        Ok(reply) => report(kernel, Outcome::Accepted, reply.mark),
-        Err(why) => report(kernel, Outcome::Refused(why), None),
-    }
+    let answer = kernel.call(&call);
+    report_with(kernel, answer)
 }
