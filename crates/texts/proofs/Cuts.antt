@@ -42,20 +42,20 @@ unfolding pieces
 pieces-last b bs h = ap (pieces-from b []) (sym (append-nil bs)) ∙ walk b [] bs [] h
 
 -- There is a first piece.
-abbrev Some-piece : List (List ℕ) → Type 0
+abbrev pub Some-piece : List (List ℕ) → Type 0
 Some-piece ps = (first : List ℕ) × (rest : List (List ℕ)) × (ps ≡ first ∷ rest)
 
 either : (t : Bool) (x : List ℕ) (xs ys : List (List ℕ)) → Some-piece ys → Some-piece (cond t (x ∷ xs) ys)
 either true x xs ys h = (x, xs, refl)
 either false x xs ys h = h
 
-some-from : (b : ℕ) (begun bs : List ℕ) → Some-piece (pieces-from b begun bs)
-some-from b begun [] = (begun, [], refl)
-some-from b begun (x ∷ bs) = either (eqb x b) begun (pieces-from b [] bs) (pieces-from b (begun ++ x ∷ []) bs) (some-from b (begun ++ x ∷ []) bs)
+pub pieces-some-from : (b : ℕ) (begun bs : List ℕ) → Some-piece (pieces-from b begun bs)
+pieces-some-from b begun [] = (begun, [], refl)
+pieces-some-from b begun (x ∷ bs) = either (eqb x b) begun (pieces-from b [] bs) (pieces-from b (begun ++ x ∷ []) bs) (pieces-some-from b (begun ++ x ∷ []) bs)
 
 pub pieces-some : (b : ℕ) (bs : List ℕ) → (first : List ℕ) × (rest : List (List ℕ)) × (pieces b bs ≡ first ∷ rest)
 unfolding pieces
-pieces-some b bs = some-from b [] bs
+pieces-some b bs = pieces-some-from b [] bs
 
 -- Every piece lacks the byte at which it was cut.
 abbrev pub All-lack : ℕ → List (List ℕ) → Type 0
@@ -91,7 +91,7 @@ rejoin-either false b x begun bs ps qs is some e f = f ∙ append-assoc begun (x
 
 rejoined-from : (b : ℕ) (begun bs : List ℕ) → rejoin b (pieces-from b begun bs) ≡ begun ++ bs
 rejoined-from b begun [] = sym (append-nil begun)
-rejoined-from b begun (x ∷ bs) = rejoin-either (eqb x b) b x begun bs (pieces-from b [] bs) (pieces-from b (begun ++ x ∷ []) bs) refl (some-from b [] bs) (rejoined-from b [] bs) (rejoined-from b (begun ++ x ∷ []) bs)
+rejoined-from b begun (x ∷ bs) = rejoin-either (eqb x b) b x begun bs (pieces-from b [] bs) (pieces-from b (begun ++ x ∷ []) bs) refl (pieces-some-from b [] bs) (rejoined-from b [] bs) (rejoined-from b (begun ++ x ∷ []) bs)
 
 pub rejoined : (b : ℕ) (bs : List ℕ) → rejoin b (pieces b bs) ≡ bs
 unfolding pieces

@@ -1,5 +1,6 @@
 pub mod Cuts
 pub mod Read
+pub mod Settled
 pub mod Numbers
 pub mod Asked
 pub mod Spelt

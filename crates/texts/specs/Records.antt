@@ -1,9 +1,11 @@
 -- The records of an input.
+use mathlib.Core.Path.{_≡_}
 use mathlib.Core.Bool.{cond}
-use mathlib.Core.List.{List, [], _∷_}
+use mathlib.Core.List.{List, [], _∷_, _++_}
 use Prim.Native.Nat.{ℕ, _-_}
 use lib.Dec.{eqb}
 use lib.ListN.{length, getD, take}
+use Rattle.std.specs.shelf.Lists.{countBy}
 use Rattle.texts.specs.Pieces.{pieces}
 
 -- A line without the CR that ends it.
@@ -20,3 +22,11 @@ among-lines (l ∷ m ∷ ls) = without-return l ∷ among-lines (m ∷ ls)
 -- The records of an input.
 unfoldable pub records : List ℕ → List (List ℕ)
 records bs = among-lines (pieces 10 bs)
+
+-- How many LFs there are.
+abbrev pub feeds : List ℕ → ℕ
+feeds bs = countBy (λ b. eqb b 10) bs
+
+-- The first n records of the bytes bs are settled: they stay the same, whatever follows.
+abbrev pub Settled : ℕ → List ℕ → Type 0
+Settled n bs = (more : List ℕ) → take n (records (bs ++ more)) ≡ take n (records bs)

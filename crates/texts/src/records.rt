@@ -5,7 +5,7 @@ ghost use mathlib.Core.List.{_∷_, []};
 ghost use Prim.Native.Nat.{_<_};
 ghost use lib.ListN.{length};
 ghost use Rattle.std.specs.Options.{Cases};
-ghost use Rattle.texts.specs.Records.{records, without-return};
+ghost use Rattle.texts.specs.Records.{records, without-return, feeds, Settled};
 ghost use Rattle.texts.specs.Readings.{Begins, Read-by-line-ends};
 use crate::pieces::cut_at;
 
@@ -56,4 +56,18 @@ pub fn cut_record(rest: &[u8]) -> Option<(&[u8], &[u8])>
     } else {
         Some(first_record(rest))
     }
+}
+
+// How many line ends the bytes have. As many records of an input are settled: what follows does not change them.
+pub fn line_ends(bytes: &[u8]) -> usize
+    ensures count { λ r. ⌜ r ≡ feeds (now (bytes .entry)) ⌝ }
+    ensures settles { λ r. ⌜ Settled r (now (bytes .entry)) ⌝ }
+{
+    let mut count = 0;
+    for b in bytes {
+        if *b == b'\n' {
+            count += 1;
+        }
+    }
+    count
 }

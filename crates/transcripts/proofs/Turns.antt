@@ -82,7 +82,3 @@ module _ (limit n : ℕ) (m : Machine) (bs : List ℕ) where
       let rest = left limit (n + 1) (after-record (asked q) m) after in
       let all : vec-items w ++ (k ++ rest) ≡ vec-items v ++ lines = ap (λ l. vec-items w ++ l) (sym (left-first q after lt cut)) ∙ is in
       filled v w k rest lines all more (subst (λ x. vec-cap w < vec-len w + length (line (n + 1) x)) told full)
-
--- An error for want of room.
-pub refused : {Z E : Type 0} (v : Vec ℕ Z) (bs : List ℕ) (r : Result (Vec ℕ Z) E) (e : E) → r ≡ Err e → vec-cap v < vec-len v + length bs → Grown v bs r
-refused v bs r e is full = subst (Grown v bs) (sym is) full

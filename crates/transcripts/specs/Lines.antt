@@ -1,7 +1,7 @@
 -- The lines of a run.
 use mathlib.Core.Path.{_≡_}
 use mathlib.Core.List.{List, [], _∷_, _++_}
-use Prim.Native.Nat.{ℕ, _+_, _<_}
+use Prim.Native.Nat.{ℕ, _+_, _≤_, _<_}
 use lib.ListN.{length, take}
 use Rattle.std.specs.declared.result.Result.{Result}
 use Rattle.std.specs.declared.result.Result.the-variants.{Ok, Err}
@@ -22,7 +22,7 @@ lines-from n m (r ∷ rs) = line (n + 1) (report-after (asked r) m) ++ lines-fro
 abbrev pub lines-of : Machine → List ℕ → List ℕ
 lines-of m input = lines-from 0 m (take 1000000 (records input))
 
--- The vector was given with the bytes bs added to it, or there was no room for them.
+-- The vector was given back with the bytes bs added to it, and with no less room; or there was no room for them.
 abbrev pub Grown : {Z E : Type 0} → Vec ℕ Z → List ℕ → Result (Vec ℕ Z) E → Type 0
-Grown v bs (Ok w) = vec-items w ≡ vec-items v ++ bs
+Grown v bs (Ok w) = (vec-items w ≡ vec-items v ++ bs) × (vec-cap v ≤ vec-cap w)
 Grown v bs (Err e) = vec-cap v < vec-len v + length bs

@@ -3,7 +3,8 @@ use native.Mathlib.Omega.{arith}
 use Rattle.std.specs.Of.Vec.{vec-items}
 use Rattle.std.proofs.shelf.Results.{err-from-errBy}
 use Rattle.kernel.specs.Meaning.{meaning}
-use Rattle.transcripts.proofs.Turns.{left-none, left-end, turn, over, no-room, refused}
+use Rattle.transcripts.proofs.Growth.{refused}
+use Rattle.transcripts.proofs.Turns.{left-none, left-end, turn, over, no-room}
 use Rattle.transcripts.proofs.runs.transcribe.Needs as need
 
 pub loop-count-holds : need.loop-count-holds
@@ -22,7 +23,7 @@ returns-in-rest g c =
     let m = meaning (g .R·WaitingSet .room) (g .R·WaitingSet .holds) (c .loop-count .kernel) in
     let n = c .loop-count .count in
     let bs = c .loop-count .rest .now in
-    over 1000000 n m bs _ _ (left-end 1000000 n m bs (c .in-rest .ensures tt .cuts)) (c .loop-count .inv .0)
+    (over 1000000 n m bs _ _ (left-end 1000000 n m bs (c .in-rest .ensures tt .cuts)) (c .loop-count .inv .0), c .loop-count .inv .1)
 
 pub returns-in-Break-push-line : need.returns-in-Break-push-line
 returns-in-Break-push-line g c =
@@ -36,4 +37,4 @@ returns g c =
     let m = meaning (g .R·WaitingSet .room) (g .R·WaitingSet .holds) (c .loop-count .kernel) in
     let n = c .loop-count .count in
     let bs = c .loop-count .rest .now in
-    over 1000000 n m bs _ _ (left-none 1000000 n m bs (omega arith)) (c .loop-count .inv .0)
+    (over 1000000 n m bs _ _ (left-none 1000000 n m bs (omega arith)) (c .loop-count .inv .0), c .loop-count .inv .1)
