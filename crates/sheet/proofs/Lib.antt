@@ -1,3 +1,3 @@
 pub mod Turns
 pub mod Exactness
-pub mod Pages
+pub mod Adding

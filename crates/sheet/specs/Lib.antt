@@ -1,3 +1,4 @@
 pub mod Entries
 pub mod Tables
 pub mod Lines
+pub mod Pages

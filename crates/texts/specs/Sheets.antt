@@ -1,5 +1,5 @@
 -- The bytes of the blocking sheet's lines.
-use mathlib.Core.List.{List, _++_}
+use mathlib.Core.List.{List, [], _++_}
 use Prim.Native.Nat.{ℕ, _+_, _/_, _^_, min}
 use lib.Chars.{codes}
 use Rattle.std.specs.Written.{decimal}
@@ -30,3 +30,11 @@ report-part r = field (decimal (outcome-number (r .outcome))) (field (optional (
 -- One line of the sheet.
 abbrev pub sheet-line : ℕ → ℕ → ℕ → ShownCall → Report → List ℕ
 sheet-line low high resource call r = entry-part low high resource call (report-part r)
+
+-- The sheet's first line.
+abbrev pub sheet-header : List ℕ
+sheet-header = codes "low,high,resource,call,result,running,waiting,ceiling" ++ line-end
+
+-- The line of a refused plan: the number of the fault, its place in the text, and five empty fields.
+abbrev pub sheet-fault : ℕ → ℕ → List ℕ
+sheet-fault number place = field (codes "plan") (field (decimal number) (field (decimal place) (field [] (field [] (field [] (field [] line-end))))))

@@ -6,13 +6,15 @@ ghost use Rattle.std.specs.Written.{decimal};
 ghost use Rattle.std.specs.Vec.{made};
 ghost use Rattle.std.specs.Of.Vec.{vec-items};
 ghost use Rattle.texts.specs.Fronts.{text-of};
+ghost use Rattle.texts.specs.Outputs.{Appended};
 ghost use Rattle.texts.specs.Lines.{field};
-ghost use Rattle.texts.specs.Sheets.{call-text, entry-part, report-part, sheet-line};
+ghost use Rattle.texts.specs.Sheets.{call-text, entry-part, report-part, sheet-line, sheet-header, sheet-fault};
 use crate::fronts::Front;
 use crate::lines::put_number;
 use crate::lines::put_optional;
 use crate::lines::put_vector;
 use crate::outcomes::Report;
+use crate::outputs::add;
 use std::alloc::AllocError;
 
 // A call of such a run: the release of one task, or the lock of a resource.
@@ -67,6 +69,28 @@ fn report_text(report: &Report) -> Front
     put_optional(&mut text, report.running);
     put_number(&mut text, report.outcome.number() as u64);
     text
+}
+
+// Adds the header of the sheet to the output, or nothing.
+pub fn push_sheet_header(out: &mut Vec<u8>) -> Result<(), AllocError>
+    ensures { λ r. ⌜ Appended (now (out .entry)) sheet-header r (now (out .exit)) ⌝ }
+{
+    add(
+        out,
+        b"low,high,resource,call,result,running,waiting,ceiling\r\n",
+    )
+}
+
+// Adds the line of a refused plan to the output, or nothing: the number of the fault, and its place in the text.
+pub fn push_sheet_fault(out: &mut Vec<u8>, number: u8, place: usize) -> Result<(), AllocError>
+    ensures { λ r. ⌜ Appended (now (out .entry)) (sheet-fault number place) r (now (out .exit)) ⌝ }
+{
+    let mut text = Front::empty();
+    text.put_all(b",,,,\r\n");
+    put_number(&mut text, place as u64);
+    put_number(&mut text, number as u64);
+    text.put_all(b"plan,");
+    text.add_to(out)
 }
 
 // Adds the line of one call of the run that shows an entry. The only error is want of memory.

@@ -4,7 +4,7 @@ use lib.Seq.{take-all}
 use lib.ListN.{take}
 use Rattle.std.specs.Of.Vec.{vec-items}
 use Rattle.sheet.specs.Lines.{sheet-lines}
-use Rattle.sheet.proofs.Pages.{lines-next, in-table}
+use Rattle.sheet.proofs.Adding.{lines-next, in-table}
 use Rattle.sheet.proofs.lines.push_entries.Needs as need
 
 pub push-entry-requires : need.push-entry-requires

@@ -12,7 +12,7 @@ use Rattle.texts.specs.declared.sheets.ShownCall.the-variants as shown
 use Rattle.texts.specs.Sheets.{sheet-line}
 use Rattle.sheet.specs.Lines.{told-of, installed, entry-lines}
 use Rattle.sheet.proofs.Exactness.{bounds}
-use Rattle.sheet.proofs.Pages.{three}
+use Rattle.sheet.proofs.Adding.{three}
 use Rattle.sheet.proofs.lines.push_entry.Needs as need
 
 pub returns : need.returns

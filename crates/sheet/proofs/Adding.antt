@@ -1,6 +1,7 @@
 -- Lines added one after the other.
 use Prim.Native.Nat.{ℕ, zero, suc, _+_, _<_}
-use mathlib.Core.Path.{_≡_, sym, ap, _∙_}
+use mathlib.Core.Path.{_≡_, refl, sym, ap, _∙_}
+use mathlib.Core.Logic.{inl, inr}
 use mathlib.Core.Bool.{true}
 use mathlib.Core.List.{List, [], _∷_, _++_}
 use native.Mathlib.Omega.{arith}
@@ -12,6 +13,7 @@ use Rattle.std.proofs.shelf.Lists.{append-assoc, append-nil, take-more}
 use Rattle.plan.specs.declared.record.Plan.{Plan}
 use Rattle.plan.specs.Plans.{may-hold-up}
 use Rattle.sheet.specs.declared.entries.Entry.{Entry}
+use Rattle.sheet.specs.Tables.{In}
 use Rattle.sheet.specs.Lines.{entry-lines, sheet-lines, All-in-table}
 
 -- three texts, the last of which may find no room
@@ -36,3 +38,7 @@ pub in-table : (p : Plan) (es : List Entry) (i : ℕ) (d : Entry) → All-in-tab
 in-table p [] i d h l = absurd (omega arith)
 in-table p (x ∷ es) zero d h l = h .0
 in-table p (x ∷ es) (suc i) d h l = in-table p es i d (h .1) (omega arith)
+
+pub all-in-table : (p : Plan) (es : List Entry) → ((x : Entry) → In es x → may-hold-up p (x .low) (x .high) (x .resource) ≡ true) → All-in-table p es
+all-in-table p [] h = tt
+all-in-table p (x ∷ es) h = (h x (inl refl), all-in-table p es (λ y i. h y (inr i)))
