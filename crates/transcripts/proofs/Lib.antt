@@ -1,2 +1,3 @@
+pub mod Enoughs
 pub mod Growth
 pub mod Turns
