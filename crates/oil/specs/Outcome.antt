@@ -14,11 +14,11 @@ use Rattle.oil.specs.declared.fault.PlanFault.{PlanFault}
 use Rattle.oil.specs.Faults.{refusal}
 use Rattle.oil.specs.Table.{blank}
 use Rattle.oil.specs.Draft.{Drafted, Shows}
-use Rattle.oil.specs.Judging.{read-all}
+use Rattle.oil.specs.Reading.{read-all}
 
 -- The draft of a text, or the first fault: a small table, a long text, and then the text from its start.
 abbrev pub drafted : List ℕ → ℕ → Drafted
-drafted text records = cond (ltb records 128) (Err (refusal cause.SmallTable 0)) (read-all text records)
+drafted text records = cond (ltb records 128) (Err (refusal cause.SmallTable 0)) (read-all text)
 
 abbrev pub done : Drafted → Result (Unit {0}) PlanFault
 done (Ok d) = Ok tt
