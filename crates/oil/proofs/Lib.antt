@@ -11,3 +11,4 @@ pub mod Whole
 pub mod Understands
 pub mod First
 pub mod Laws
+pub mod Walks

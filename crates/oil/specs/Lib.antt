@@ -7,3 +7,4 @@ pub mod Records
 pub mod Outcome
 pub mod Meaning
 pub mod First
+pub mod Positions
