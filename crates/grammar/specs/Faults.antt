@@ -23,6 +23,7 @@ raised f = record { cause = cause.Letters (f .cause); place = f .place }
 abbrev pub misplaced : ℕ → GrammarFault
 misplaced place = record { cause = cause.Misplaced; place = place }
 
+-- What a layer below gives, with its fault raised.
 abbrev pub lifted : {A : Type 0} → Result A LettersFault → Result A GrammarFault
 lifted (Ok x) = Ok x
 lifted (Err f) = Err (raised f)

@@ -26,10 +26,10 @@ use Rattle.grammar.specs.Language.{Object, resource, event, task}
 use Rattle.oil.specs.declared.table.Known.{Known}
 use Rattle.oil.specs.declared.draft.Draft.{Draft}
 use Rattle.oil.specs.Faults.{raised-plan}
-use Rattle.oil.specs.Draft.{Drafted, added, prioritized, activated, with-resources, with-events, with-count, with-users, with-registered, grown, next-number}
+use Rattle.oil.specs.Draft.{Drafted, added, prioritized, activated, with-resources, with-events, with-tasks, with-users, with-registered, grown, next-number}
 use Rattle.oil.specs.Judging.{lift-plan, unless-known, referred-to, referred-by, judged, proceed, resume}
 use Rattle.oil.specs.Reading.{Entry, look-up, learnt, names-after, names-at, gathered}
-use Rattle.oil.specs.Meaning.{At, In, name-of, names-of, resources-of, events-of, priorities-of, All-known, uses-in, awaits-in, users-of, registered-of}
+use Rattle.oil.specs.Meaning.{At, In, name-of, names-of, resources-of, events-of, priorities-of, All-earlier, uses-in, awaits-in, users-of, registered-of}
 use Rattle.oil.proofs.Vectors.{at-new, at-split, vector-more}
 use Rattle.oil.proofs.Stands.{ext-same, ext-more, Stands-for, Looked, Book, enter, vecs-declare, vecs-like, Drawn}
 
@@ -73,7 +73,7 @@ abbrev pub Allowed : List Object → Object → Type 0
 Allowed before (resource n) = (In (names-of before) n → ⊥) × (length (resources-of before) < 32)
 Allowed before (event n) = (In (names-of before) n → ⊥) × (length (events-of before) < 32)
 Allowed before (task n p a rs) =
-    (In (names-of before) n → ⊥) × (length (priorities-of before) < 64) × (p < 64) × (In (priorities-of before) p → ⊥) × (a ≡ 1) × All-known before rs
+    (In (names-of before) n → ⊥) × (length (priorities-of before) < 64) × (p < 64) × (In (priorities-of before) p → ⊥) × (a ≡ 1) × All-earlier before rs
 
 abbrev pub Allowed-from : List Object → List Object → Type 0
 Allowed-from before [] = 0 < length (priorities-of before)
@@ -197,7 +197,7 @@ with-task d v = record {
 }
 
 -- a task and its priority, before its references
-pub task-drawn : {os : List Object} {d : Draft} {es : List Entry} (v : ℕ) → v < 64 → Tree os d es → (d .tasks ≡ 64 → ⊥) → Drawn (priorities-of os ++ (v ∷ [])) (resources-of os) (events-of os) (λ m. users-of m os) (λ m. registered-of m os) (length (priorities-of os) + 1) (with-task (with-count d (d .tasks + 1)) v)
+pub task-drawn : {os : List Object} {d : Draft} {es : List Entry} (v : ℕ) → v < 64 → Tree os d es → (d .tasks ≡ 64 → ⊥) → Drawn (priorities-of os ++ (v ∷ [])) (resources-of os) (events-of os) (λ m. users-of m os) (λ m. registered-of m os) (length (priorities-of os) + 1) (with-task (with-tasks d (d .tasks + 1)) v)
 task-drawn {os} {d} v fits t low =
     let x = t .drawn in
     let e = x .same-count in
@@ -250,7 +250,7 @@ Limit d kind.Task = d .tasks ≡ 64
 abbrev pub later : Draft → Kind → Draft
 later d kind.Resource = with-resources d (d .resources + 1)
 later d kind.Event = with-events d (d .events + 1)
-later d kind.Task = with-count d (d .tasks + 1)
+later d kind.Task = with-tasks d (d .tasks + 1)
 
 module _ (P : Draft → Type 0) (N : Type 0) where
   pub declares-says : (es : List Entry) (d : Draft) (n : List ℕ) (place : ℕ) (k : Kind) (found : Option Known) (cont : Draft → List Entry → Drafted) → ((x : Known) → found ≡ Some x → N) → (Limit d k → N) → (found ≡ None → (Limit d k → ⊥) → Cases (cont (later d k) (record { name = n; kind = k; number = next-number d k } ∷ es)) P (λ _. N)) → Cases (and-then (unless-known found place (grown d k place)) (λ e. cont e (learnt es d k n (unless-known found place (grown d k place))))) P (λ _. N)

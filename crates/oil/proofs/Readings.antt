@@ -28,9 +28,9 @@ use Rattle.grammar.proofs.Complete.{scan-room, fixed-back, numeral-back, open-o
 use Rattle.oil.specs.declared.draft.Draft.{Draft}
 use Rattle.oil.specs.declared.fault.PlanCause.the-variants as cause
 use Rattle.oil.specs.Faults.{refusal}
-use Rattle.oil.specs.Draft.{Drafted, added, with-resources, with-events, with-count, with-users, with-registered}
+use Rattle.oil.specs.Draft.{Drafted, added, with-resources, with-events, with-tasks, with-users, with-registered}
 use Rattle.oil.specs.Reading.{Entry, look-up, gathered}
-use Rattle.oil.specs.Meaning.{names-of, resources-of, events-of, priorities-of, All-known, uses-in, awaits-in, users-of, registered-of, Vector-of, Rows-of}
+use Rattle.oil.specs.Meaning.{names-of, resources-of, events-of, priorities-of, All-earlier, uses-in, awaits-in, users-of, registered-of, Vector-of, Rows-of}
 use Rattle.oil.proofs.Vectors.{vector-none, vector-same, taken-out}
 use Rattle.oil.proofs.Stands.{Looked, Book, vecs-add, Drawn}
 use Rattle.oil.proofs.Judged.{names-app, resources-app, events-app, priorities-app, users-app, registered-app, Allowed-from, joined, Tree, book-like, drawn-like, stands-in, fresh, tree-resource, tree-event, task-book, task-drawn, with-task, cases-map, gathered-item, declares-says, priority-says, activation-says, uses-says, awaits-says}
@@ -41,8 +41,8 @@ snoc-cond false xs l v = ap (λ z. z ++ l) (append-nil xs)
 
 module _ (text : List ℕ) (P : Draft → Type 0) (N : Type 0) (before : List Object) (ns : List (List ℕ)) (ps : List ℕ) (count v : ℕ) (fits : v < 64) (names : List Entry) where
   references-says : (rs : List Reference) (ss : List Sign) (q : ℕ) (us ls : List ℕ → List ℕ)
-      → ((All-known before rs → ⊥) → N)
-      → ((d : Draft) (us' ls' : List ℕ → List ℕ) (m pos : ℕ) → ((k : List ℕ) → us' k ≡ us k ++ uses-in k v rs) → ((k : List ℕ) → ls' k ≡ ls k ++ awaits-in k v rs) → Drawn ps (resources-of before) (events-of before) us' ls' count d → Book ns (resources-of before) (events-of before) names → All-known before rs → length text < m + pos → Scan text pos (mark marks.Semicolon ∷ ss) q → Cases (gathered m text names d state.Closed pos) P (λ _. N))
+      → ((All-earlier before rs → ⊥) → N)
+      → ((d : Draft) (us' ls' : List ℕ → List ℕ) (m pos : ℕ) → ((k : List ℕ) → us' k ≡ us k ++ uses-in k v rs) → ((k : List ℕ) → ls' k ≡ ls k ++ awaits-in k v rs) → Drawn ps (resources-of before) (events-of before) us' ls' count d → Book ns (resources-of before) (events-of before) names → All-earlier before rs → length text < m + pos → Scan text pos (mark marks.Semicolon ∷ ss) q → Cases (gathered m text names d state.Closed pos) P (λ _. N))
       → (s : State) (pos p : ℕ) → followed text (template s) pos ≡ Ok p → pos ≤ p → judged-at text s p ≡ attribute-at text p → Scan text p (references rs ss) q
       → (d : Draft) → Drawn ps (resources-of before) (events-of before) us ls count d → Book ns (resources-of before) (events-of before) names → d .current ≡ 2 ^ v → (m : ℕ) → length text < m + pos → Cases (gathered m text names d s pos) P (λ _. N)
   references-says [] ss q us ls bad more s pos p f up j sc d dr tb cur m fuel =
@@ -265,7 +265,7 @@ module _ (text : List ℕ) where
       let all = task n pr ac rs ∷ os in
       let here = before ++ (task n pr ac rs ∷ []) in
       let after : List Entry = record { name = b; kind = kind.Task; number = 0 } ∷ names in
-      let d1 = with-count d (d .tasks + 1) in
+      let d1 = with-tasks d (d .tasks + 1) in
       let d2 = with-task d1 pr in
       let gi = gathered-item m text names d s pos st (item-of text s pos p st f (j ∙ x .1)) (omega arith) in
       let gv = gathered-item (m - 1) text after d1 (state.Declared kind.Task) (t .end) sv (item-of text (state.Declared kind.Task) (t .end) (y .0) sv (y .1) (ap (λ z. and-then z (λ e. step (item.Priority (e .0) (e .1)) state.Prioritized (e .1 .end))) (v .1))) (omega arith) in

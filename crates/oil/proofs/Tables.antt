@@ -34,7 +34,7 @@ use Rattle.oil.specs.declared.draft.Draft.{Draft}
 use Rattle.oil.specs.declared.fault.PlanCause.the-variants as cause
 use Rattle.oil.specs.Faults.{refusal}
 use Rattle.oil.specs.Table.{keyed, no-key, find, blank, as-holds, meant, known-by, looked}
-use Rattle.oil.specs.Draft.{Within, Drafted, Bounded, Sound-draft, next-number, used, grown, with-resources, with-events, with-count, with-users, with-registered, prioritized, added}
+use Rattle.oil.specs.Draft.{Within, Drafted, Bounded, Sound-draft, next-number, used, grown, with-resources, with-events, with-tasks, with-users, with-registered, prioritized, added}
 use Rattle.oil.specs.Judging.{unless-known, referred-to, referred-by, judged, proceed}
 use Rattle.oil.specs.Records.{All-ok, Record-ok, Number-ok, Ready, entered, noted, Goes-on, Item-in}
 
@@ -140,11 +140,11 @@ grown-ready d names kind.Event name place h =
     let b = h .bounded in
     more d (with-events d (d .events + 1)) names _ (record { few-tasks = b .few-tasks; few-resources = b .few-resources; few-events = omega arith }) (le-refl _) (omega arith) (omega arith) (let s = h .vectors in record { users-in = s .users-in; registered-in = s .registered-in; users-end = s .users-end; registered-end = λ i l. s .registered-end i (omega arith); current-in = s .current-in }) h)
 grown-ready d names kind.Task name place h =
-    cond-both (eqb (d .tasks) 64) (Err (refusal cause.TooMany place)) (Ok (with-count d (d .tasks + 1)))
+    cond-both (eqb (d .tasks) 64) (Err (refusal cause.TooMany place)) (Ok (with-tasks d (d .tasks + 1)))
     (Kept d names (record { name = name; holds = holds.Task; number = 0 })) (λ _. tt)
     (λ e. let ne = eqb-false (d .tasks) 64 e in
     let b = h .bounded in
-    more d (with-count d (d .tasks + 1)) names _ (record { few-tasks = omega arith; few-resources = b .few-resources; few-events = b .few-events }) (le-refl _) (le-refl _) tt (let s = h .vectors in record { users-in = s .users-in; registered-in = s .registered-in; users-end = s .users-end; registered-end = s .registered-end; current-in = s .current-in }) h)
+    more d (with-tasks d (d .tasks + 1)) names _ (record { few-tasks = omega arith; few-resources = b .few-resources; few-events = b .few-events }) (le-refl _) (le-refl _) tt (let s = h .vectors in record { users-in = s .users-in; registered-in = s .registered-in; users-end = s .users-end; registered-end = s .registered-end; current-in = s .current-in }) h)
 
 declared-ready : (d : Draft) (names : List NameRecord) (k : Kind) (name : List ℕ) (place : ℕ) (found : Option Known) → Ready d names → Kept d names (record { name = name; holds = as-holds k; number = next-number d k }) (unless-known found place (grown d k place))
 declared-ready d names k name place None h = grown-ready d names k name place h

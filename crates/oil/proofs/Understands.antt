@@ -21,7 +21,7 @@ use Rattle.grammar.specs.declared.item.State.the-variants as state
 use Rattle.grammar.specs.Faults.{and-then, misplaced}
 use Rattle.grammar.specs.Slots.{admits, expected, followed}
 use Rattle.grammar.specs.Items.{template}
-use Rattle.grammar.specs.Language.{word, mark, Scan, Holds, Object, objects, unparse}
+use Rattle.grammar.specs.Language.{word, mark, Scan, Spells, Object, objects, unparse}
 use Rattle.grammar.proofs.Complete.{first-token, fixed-back, followed-join, name-admitted}
 use Rattle.oil.specs.declared.draft.Draft.{Draft}
 use Rattle.oil.specs.declared.fault.PlanFault.{PlanFault}
@@ -62,7 +62,7 @@ tree-none = record {
   };
 }
 
-reads-says : (text cpu : List ℕ) (os : List Object) → Holds text (unparse cpu os) → Cases (whole text) (Good text [] os) (λ _. Bad text [] os)
+reads-says : (text cpu : List ℕ) (os : List Object) → Spells text (unparse cpu os) → Cases (whole text) (Good text [] os) (λ _. Bad text [] os)
 reads-says text cpu os h =
     let x = start-scan text cpu os (h .0) (h .1) in
     objects-says text os [] state.Start 0 (x .0) (h .0) (x .1) (omega arith) refl (x .2) (h .2) [] empty-draft tree-none (suc (length text)) (omega arith)
@@ -102,17 +102,17 @@ understood : (text : List ℕ) (records : ℕ) (old new : Plan) (r : Drafted) �
 understood text records old new (Ok d) e s =
     let l = drafted-lawful text records d e in
     let o = drafted-ok text records d e in
-    let good : (cpu : List ℕ) (os : List Object) → Holds text (unparse cpu os) → Good text [] os d = λ cpu os h. subst (λ r. Cases r (Good text [] os) (λ _. Bad text [] os)) (o .2) (reads-says text cpu os h) in
-    let plan : (cpu : List ℕ) (os : List Object) → Holds text (unparse cpu os) → Plan-of os new = λ cpu os h. shown os d old new s (subst (λ x. Plans x d) (joined-app os []) (good cpu os h .1)) in (
+    let good : (cpu : List ℕ) (os : List Object) → Spells text (unparse cpu os) → Good text [] os d = λ cpu os h. subst (λ r. Cases r (Good text [] os) (λ _. Bad text [] os)) (o .2) (reads-says text cpu os h) in
+    let plan : (cpu : List ℕ) (os : List Object) → Spells text (unparse cpu os) → Plan-of os new = λ cpu os h. shown os d old new s (subst (λ x. Plans x d) (joined-app os []) (good cpu os h .1)) in (
       o .0,
       o .1,
       record { cpu = l .0; tree = l .1; spelt = l .2; formed = formed-from (l .1) (good (l .0) (l .1) (l .2) .0); plan = plan (l .0) (l .1) (l .2) },
       (λ q m. plan-same (m .tree) q new (m .plan) (plan (m .cpu) (m .tree) (m .spelt))),
     )
-understood text records old new (Err f) e s = λ room short q m.
+understood text records old new (Err f) e s = λ room short cpu tree spelt formed.
     let is : whole text ≡ Err f = sym (drafted-is text records room short) ∙ e in
-    let bad : Bad text [] (m .tree) = subst (λ r. Cases r (Good text [] (m .tree)) (λ _. Bad text [] (m .tree))) is (reads-says text (m .cpu) (m .tree) (m .spelt)) in
-    bad (allowed-from (m .tree) (m .formed))
+    let bad : Bad text [] tree = subst (λ r. Cases r (Good text [] tree) (λ _. Bad text [] tree)) is (reads-says text cpu tree spelt) in
+    bad (allowed-from tree formed)
 
 pub understood-by : (text : List ℕ) (records : ℕ) (old new : Plan) (r : Result (Unit {0}) PlanFault) → r ≡ outcome text records → Plan-after text records old new r → Understood text records new r
 understood-by text records old new r e p = subst (λ x. Understood text records new x) (sym e) (understood text records old new (drafted text records) refl p)

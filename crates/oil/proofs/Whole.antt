@@ -21,7 +21,7 @@ use Rattle.grammar.specs.declared.item.Item.the-variants as item
 use Rattle.grammar.specs.declared.item.Step.{Step}
 use Rattle.grammar.specs.Faults.{and-then, lifted}
 use Rattle.grammar.specs.Items.{item-at}
-use Rattle.grammar.specs.Language.{Run, ends, goes, Object, Holds, unparse}
+use Rattle.grammar.specs.Language.{Run, ends, goes, Object, Spells, unparse}
 use Rattle.grammar.proofs.Through.{through}
 use Rattle.grammar.proofs.Accepts.{takes-lawful}
 use Rattle.oil.specs.declared.draft.Draft.{Draft}
@@ -102,6 +102,6 @@ gathered-run (suc n) text es d s pos e h =
     (ap (λ p. resume p (λ b. Ok b) (λ b t q. gathered n text after b t q)) (c .goes) ∙ x .2)
 
 -- a text that is not refused holds the tokens of some objects
-pub drafted-lawful : (text : List ℕ) (records : ℕ) (d : Draft) → drafted text records ≡ Ok d → (cpu : List ℕ) × (os : List Object) × Holds text (unparse cpu os)
+pub drafted-lawful : (text : List ℕ) (records : ℕ) (d : Draft) → drafted text records ≡ Ok d → (cpu : List ℕ) × (os : List Object) × Spells text (unparse cpu os)
 drafted-lawful text records d h =
     takes-lawful text (gathered-run (suc (length text)) text [] empty-draft state.Start 0 d (drafted-ok text records d h .2))

@@ -25,6 +25,7 @@ use Rattle.oil.specs.declared.reader.Progress.the-variants as progress
 use Rattle.oil.specs.Faults.{raised-plan, refusal}
 use Rattle.oil.specs.Draft.{Drafted, added, prioritized, activated, with-users, with-registered, grown, finished}
 
+-- A name that is known may not be declared again.
 abbrev pub unless-known : Option Known → ℕ → Drafted → Drafted
 unless-known None place after = after
 unless-known (Some x) place after = Err (refusal cause.NameTaken place)
@@ -43,10 +44,12 @@ referred-to d kind.Event kind.Event n place = Ok (with-registered d (added (d .r
 referred-to d kind.Event kind.Task n place = Err (refusal cause.NotKnown place)
 referred-to d kind.Task found n place = Err (refusal cause.NotKnown place)
 
+-- A reference by what its name stands for.
 abbrev pub referred-by : Draft → Kind → Option Known → ℕ → Drafted
 referred-by d k None place = Err (refusal cause.NotKnown place)
 referred-by d k (Some x) place = referred-to d k (x .kind) (x .number) place
 
+-- A reference by its name.
 abbrev pub referred : (List ℕ → Option Known) → Draft → Kind → List ℕ → ℕ → Drafted
 referred look d k name place = referred-by d k (look name) place
 
@@ -59,6 +62,7 @@ judged text look d (item.Refers k t) = referred look d k (bytes-of text t) (t .p
 judged text look d item.Closes = Ok d
 judged text look d item.End = finished d (length text)
 
+-- What a layer below gives, with its fault raised.
 abbrev pub lift-plan : {A : Type 0} → Result A GrammarFault → Result A PlanFault
 lift-plan (Ok x) = Ok x
 lift-plan (Err f) = Err (raised-plan f)
@@ -77,6 +81,7 @@ abbrev pub advanced : List ℕ → (List ℕ → Option Known) → Draft → Sta
 advanced text look d s pos =
     and-then (lift-plan (item-at text s pos)) (λ st. and-then (judged text look d (st .item)) (λ e. Ok (proceed (st .item) e st)))
 
+-- What comes after a step.
 abbrev pub resume : {A : Type 0} → Progress → (Draft → A) → (Draft → State → ℕ → A) → A
 resume (progress.Done d) done more = done d
 resume (progress.More d s p) done more = more d s p

@@ -10,75 +10,84 @@ use Rattle.std.specs.Results.{Cases}
 use Rattle.vectors.specs.Vectors.{in-vector}
 use Rattle.plan.specs.declared.record.Plan.{Plan}
 use Rattle.plan.specs.Rows.{Same-rows}
-use Rattle.grammar.specs.Language.{Reference, uses, awaits, Object, resource, event, task, Holds, unparse}
+use Rattle.grammar.specs.Language.{Reference, uses, awaits, Object, resource, event, task, Spells, unparse}
 use Rattle.oil.specs.declared.fault.PlanFault.{PlanFault}
 
--- the element number i of the list is x
+-- Element number i of the list is x.
 abbrev pub At : {X : Type 0} → List X → ℕ → X → Type 0
 At [] i x = ⊥
 At (y ∷ ys) zero x = y ≡ x
 At (y ∷ ys) (suc i) x = At ys i x
 
+-- The element x is in the list.
 abbrev pub In : {X : Type 0} → List X → X → Type 0
 In xs x = (i : ℕ) × At xs i x
 
--- no two places of the list hold the same
+-- No two places of the list hold the same.
 abbrev pub Distinct : {X : Type 0} → List X → Type 0
 Distinct {X} xs = (x : X) (i j : ℕ) → At xs i x → At xs j x → i ≡ j
 
--- the names of all objects, of the resources, of the events and of the tasks, and the priorities, in the order of the text
+-- The name of an object.
 abbrev pub name-of : Object → List ℕ
 name-of (resource n) = n
 name-of (event n) = n
 name-of (task n p a rs) = n
 
+-- The names of all objects, in the order of the text.
 abbrev pub names-of : List Object → List (List ℕ)
 names-of [] = []
 names-of (o ∷ os) = name-of o ∷ names-of os
 
+-- The names of the resources, in the order of the text.
 abbrev pub resources-of : List Object → List (List ℕ)
 resources-of [] = []
 resources-of (resource n ∷ os) = n ∷ resources-of os
 resources-of (event n ∷ os) = resources-of os
 resources-of (task n p a rs ∷ os) = resources-of os
 
+-- The names of the events, in the order of the text.
 abbrev pub events-of : List Object → List (List ℕ)
 events-of [] = []
 events-of (resource n ∷ os) = events-of os
 events-of (event n ∷ os) = n ∷ events-of os
 events-of (task n p a rs ∷ os) = events-of os
 
+-- The priorities of the tasks, in the order of the text.
 abbrev pub priorities-of : List Object → List ℕ
 priorities-of [] = []
 priorities-of (resource n ∷ os) = priorities-of os
 priorities-of (event n ∷ os) = priorities-of os
 priorities-of (task n p a rs ∷ os) = p ∷ priorities-of os
 
+-- The activations of the tasks, in the order of the text.
 abbrev pub activations-of : List Object → List ℕ
 activations-of [] = []
 activations-of (resource n ∷ os) = activations-of os
 activations-of (event n ∷ os) = activations-of os
 activations-of (task n p a rs ∷ os) = a ∷ activations-of os
 
--- a reference names a resource or an event of the objects before
-abbrev pub Known : List Object → Reference → Type 0
-Known before (uses n) = In (resources-of before) n
-Known before (awaits n) = In (events-of before) n
+-- A reference names a resource or an event of the objects before.
+abbrev pub Earlier : List Object → Reference → Type 0
+Earlier before (uses n) = In (resources-of before) n
+Earlier before (awaits n) = In (events-of before) n
 
-abbrev pub All-known : List Object → List Reference → Type 0
-All-known before [] = Unit {0}
-All-known before (r ∷ rs) = Known before r × All-known before rs
+-- Each of the references does.
+abbrev pub All-earlier : List Object → List Reference → Type 0
+All-earlier before [] = Unit {0}
+All-earlier before (r ∷ rs) = Earlier before r × All-earlier before rs
 
-abbrev pub Known-in : List Object → Object → Type 0
-Known-in before (resource n) = Unit {0}
-Known-in before (event n) = Unit {0}
-Known-in before (task n p a rs) = All-known before rs
+-- Each reference of the object does.
+abbrev pub Earlier-in : List Object → Object → Type 0
+Earlier-in before (resource n) = Unit {0}
+Earlier-in before (event n) = Unit {0}
+Earlier-in before (task n p a rs) = All-earlier before rs
 
--- each reference of each object names an earlier one
+-- Each reference of each object names an earlier one.
 abbrev pub Grounded : List Object → List Object → Type 0
 Grounded before [] = Unit {0}
-Grounded before (o ∷ os) = Known-in before o × Grounded (before ++ (o ∷ [])) os
+Grounded before (o ∷ os) = Earlier-in before o × Grounded (before ++ (o ∷ [])) os
 
+-- Names differ, references name earlier objects of their kind, priorities differ and are low, tasks are activated once, there are not too many objects, and there is a task.
 pub record Well-formed (os : List Object) : Type 0 where
   pub names-differ : Distinct (names-of os)
   pub references-known : Grounded [] os
@@ -90,24 +99,26 @@ pub record Well-formed (os : List Object) : Type 0 where
   pub few-tasks : length (priorities-of os) ≤ 64
   pub some-task : 0 < length (priorities-of os)
 
--- the task p, once for each of its references to the resource n
+-- The task p, once for each of its references to the resource n.
 abbrev pub uses-in : List ℕ → ℕ → List Reference → List ℕ
 uses-in n p [] = []
 uses-in n p (uses m ∷ rs) = cond (sameBytes m n) (p ∷ uses-in n p rs) (uses-in n p rs)
 uses-in n p (awaits m ∷ rs) = uses-in n p rs
 
+-- The task p, once for each of its references to the event n.
 abbrev pub awaits-in : List ℕ → ℕ → List Reference → List ℕ
 awaits-in n p [] = []
 awaits-in n p (uses m ∷ rs) = awaits-in n p rs
 awaits-in n p (awaits m ∷ rs) = cond (sameBytes m n) (p ∷ awaits-in n p rs) (awaits-in n p rs)
 
--- the tasks that use the resource n, and those that are registered for the event n
+-- The tasks that use the resource n.
 abbrev pub users-of : List ℕ → List Object → List ℕ
 users-of n [] = []
 users-of n (resource m ∷ os) = users-of n os
 users-of n (event m ∷ os) = users-of n os
 users-of n (task m p a rs ∷ os) = uses-in n p rs ++ users-of n os
 
+-- The tasks that are registered for the event n.
 abbrev pub registered-of : List ℕ → List Object → List ℕ
 registered-of n [] = []
 registered-of n (resource m ∷ os) = registered-of n os
@@ -137,7 +148,7 @@ pub record Plan-of (os : List Object) (p : Plan) : Type 0 where
 pub record Means (text : List ℕ) (p : Plan) : Type 0 where
   pub cpu : List ℕ
   pub tree : List Object
-  pub spelt : Holds text (unparse cpu tree)
+  pub spelt : Spells text (unparse cpu tree)
   pub formed : Well-formed tree
   pub plan : Plan-of tree p
 
@@ -149,9 +160,13 @@ pub record Same-plan (p q : Plan) : Type 0 where
   pub users : Same-rows (p .users) (q .users)
   pub registered : Same-rows (p .registered) (q .registered)
 
+-- The text spells no well-formed tree.
+abbrev pub Meaningless : List ℕ → Type 0
+Meaningless text = (cpu : List ℕ) (tree : List Object) → Spells text (unparse cpu tree) → Well-formed tree → ⊥
+
 -- A text is accepted exactly if it is short enough, spells a well-formed tree and has a table that is large enough; the plan is the tree's, and no other plan is.
 abbrev pub Understood : List ℕ → ℕ → Plan → Result (Unit {0}) PlanFault → Type 0
 Understood text records p r =
     Cases r
     (λ _. (128 ≤ records) × (length text ≤ 32768) × Means text p × ((q : Plan) → Means text q → Same-plan q p))
-    (λ _. 128 ≤ records → length text ≤ 32768 → (q : Plan) → Means text q → ⊥)
+    (λ _. 128 ≤ records → length text ≤ 32768 → Meaningless text)

@@ -20,10 +20,12 @@ use Rattle.oil.specs.Reading.{read-all}
 abbrev pub drafted : List ℕ → ℕ → Drafted
 drafted text records = cond (ltb records 128) (Err (refusal cause.SmallTable 0)) (read-all text)
 
+-- Acceptance, or the fault.
 abbrev pub done : Drafted → Result (Unit {0}) PlanFault
 done (Ok d) = Ok tt
 done (Err f) = Err f
 
+-- What the reader answers.
 abbrev pub outcome : List ℕ → ℕ → Result (Unit {0}) PlanFault
 outcome text records = done (drafted text records)
 
@@ -31,6 +33,7 @@ outcome text records = done (drafted text records)
 abbrev pub table-after : List NameRecord → List NameRecord
 table-after names = cond (ltb (length names) 128) names (replicate (length names) blank)
 
+-- The plan after the reading, from the plan before it.
 abbrev pub Plan-from : Drafted → Plan → Plan → Type 0
 Plan-from (Ok d) old new = Shows d (new .declared) (new .resources) (new .events) (new .users) (new .registered)
 Plan-from (Err f) old new = new ≡ old

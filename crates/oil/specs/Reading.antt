@@ -49,6 +49,7 @@ names-after text es d (item.Refers k t) = es
 names-after text es d item.Closes = es
 names-after text es d item.End = es
 
+-- The names after a step.
 abbrev pub names-at : List ℕ → List Entry → Draft → Result Step GrammarFault → List Entry
 names-at text es d (Ok st) = names-after text es d (st .item)
 names-at text es d (Err f) = es

@@ -41,10 +41,12 @@ noted text names d (item.Refers k t) = names
 noted text names d item.Closes = names
 noted text names d item.End = names
 
+-- The table after a step.
 abbrev pub noted-at : List ℕ → List NameRecord → Draft → Result Step GrammarFault → List NameRecord
 noted-at text names d (Ok st) = noted text names d (st .item)
 noted-at text names d (Err f) = names
 
+-- What comes after a step, or what stays where the reading ends.
 abbrev pub carried : {A : Type 0} → Result Progress PlanFault → A → (Draft → State → ℕ → A) → A
 carried (Ok p) stay more = resume p (λ e. stay) more
 carried (Err f) stay more = stay
@@ -55,10 +57,12 @@ left-by zero text names d s pos = names
 left-by (suc n) text names d s pos =
     carried (advanced text (looked names) d s pos) (noted-at text names d (item-at text s pos)) (λ e t q. left-by n text (noted-at text names d (item-at text s pos)) e t q)
 
+-- The table where the reading ends, from the state at its start.
 abbrev pub left-from : List ℕ → List NameRecord → Result State GrammarFault → List NameRecord
 left-from text names (Ok s) = left-by (suc (length text)) text names empty-draft s 0
 left-from text names (Err f) = names
 
+-- The table where the reading of a whole text ends.
 abbrev pub left-after : List ℕ → List NameRecord → List NameRecord
 left-after text names = left-from text names (begun text)
 
@@ -69,9 +73,11 @@ Number-ok d holds.Resource n = n < d .resources
 Number-ok d holds.Event n = n < d .events
 Number-ok d holds.Task n = Unit {0}
 
+-- The number of the record is one that is declared.
 abbrev pub Record-ok : Draft → NameRecord → Type 0
 Record-ok d r = Number-ok d (r .holds) (r .number)
 
+-- The number of each record is.
 abbrev pub All-ok : Draft → List NameRecord → Type 0
 All-ok d [] = Unit {0}
 All-ok d (r ∷ rs) = Record-ok d r × All-ok d rs
@@ -92,6 +98,7 @@ pub record Ready (d : Draft) (names : List NameRecord) : Type 0 where
   pub sound : All-ok d names
   pub vectors : Sound-draft d
 
+-- The reading goes on further right, with draft and table ready.
 abbrev pub Goes-on : ℕ → ℕ → List NameRecord → Progress → Type 0
 Goes-on pos high names (progress.Done d) = Ready d names
 Goes-on pos high names (progress.More d s p) = (pos < p) × (p ≤ high) × Ready d names

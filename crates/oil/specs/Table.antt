@@ -13,19 +13,20 @@ use Rattle.oil.specs.declared.table.Holds.the-variants as holds
 use Rattle.oil.specs.declared.table.Known.{Known}
 use Rattle.oil.specs.declared.table.NameRecord.{NameRecord}
 
+-- The key of an empty record.
 abbrev pub no-key : List ℕ
 no-key = replicate 32 0
 
--- the bytes written over the key from place i on
+-- The bytes written over the key from place i on.
 abbrev pub keyed : ℕ → List ℕ → List ℕ → List ℕ
 keyed i [] key = key
 keyed i (b ∷ bs) key = keyed (i + 1) bs (set key i b)
 
--- an empty record
+-- An empty record.
 abbrev pub blank : NameRecord
 blank = record { name = no-key; holds = holds.Nothing; number = 0 }
 
--- the first record of this name
+-- The first record with this key.
 abbrev pub find : List NameRecord → List ℕ → Option NameRecord
 find [] key = None
 find (r ∷ rs) key = cond (sameBytes (r .name) key) (Some r) (find rs key)
@@ -43,6 +44,7 @@ meant holds.Resource n = Some (record { kind = kind.Resource; number = n })
 meant holds.Event n = Some (record { kind = kind.Event; number = n })
 meant holds.Task n = Some (record { kind = kind.Task; number = n })
 
+-- What the record that was found stands for.
 abbrev pub known-by : Option NameRecord → Option Known
 known-by None = None
 known-by (Some r) = meant (r .holds) (r .number)
