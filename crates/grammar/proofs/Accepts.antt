@@ -33,7 +33,7 @@ use Rattle.grammar.specs.Faults.{and-then, lifted, misplaced}
 use Rattle.grammar.specs.Slots.{lexed, spelt, admits, expected, followed}
 use Rattle.grammar.specs.Items.{if-name, named, if-number, numeral-at, heading, template, Stepped, step, declared-at, object-at, referred-at, reference-at, attribute-at, judged-at, item-at}
 use Rattle.grammar.proofs.Through.{Fit, No-end, fit, through, lexed-ok, tested}
-use Rattle.grammar.specs.Language.{Sign, word, num, str, mark, sign-by, sign-of, Scan, stop, reads, At-end, Holds, Reference, uses, awaits, Object, resource, event, task, reference, references, resource-rest, event-rest, activation-rest, priority-rest, task-rest, objects, unparse, Run, ends, goes}
+use Rattle.grammar.specs.Language.{Sign, word, num, str, mark, sign-by, sign-of, Scan, stop, reads, At-end, Spells, Reference, uses, awaits, Object, resource, event, task, reference, references, resource-rest, event-rest, activation-rest, priority-rest, task-rest, objects, unparse, Run, ends, goes}
 
 abbrev pub slot-sign : Slot → Sign
 slot-sign (slot.Word w) = word (spelt w)
@@ -370,5 +370,5 @@ module _ (text : List ℕ) where
   lawful s pos (ends st h e) = fold s pos st h (λ ne. absurd (ne e))
   lawful s pos (goes st h ne r) = fold s pos st h (λ _. lawful (st .state) (st .pos) r)
 
-pub takes-lawful : (text : List ℕ) → Run text state.Start 0 → (cpu : List ℕ) × (os : List Object) × Holds text (unparse cpu os)
+pub takes-lawful : (text : List ℕ) → Run text state.Start 0 → (cpu : List ℕ) × (os : List Object) × Spells text (unparse cpu os)
 takes-lawful text r = lawful text state.Start 0 r

@@ -101,7 +101,7 @@ module _ (text other : List ℕ) (high : ℕ) (near : Near high text other) wher
           (omega arith, λ l. ap (λ r. and-then (lifted r) g) (lex-near text other high near pos (omega arith) ∙ e))
       on (Ok t) e = judged t (f t) e (h t (lex-whole text pos t e .1))
 
-  admits-near : (s : Slot) (t : Token) → Whole text t → t .end ≤ high → admits other s t ≡ admits text s t
+  pub admits-near : (s : Slot) (t : Token) → Whole text t → t .end ≤ high → admits other s t ≡ admits text s t
   admits-near (slot.Word w) t k l = ap (λ b. is-name (t .what) && sameBytes b (spelt w)) (bytes-near text other high near t (k .0) l)
   admits-near (slot.Mark m) t k l = refl
   admits-near slot.AnyName t k l = refl
@@ -147,7 +147,7 @@ module _ (text other : List ℕ) (high : ℕ) (near : Near high text other) wher
   numeral-agrees : (pos : ℕ) → Agrees numeral-end pos (numeral-at text pos) (numeral-at other pos)
   numeral-agrees pos = token-then numeral-end pos (λ t. if-number t (t .what)) (λ t. if-number t (t .what)) (λ t w. as-numeral t (t .what))
 
-  heading-near : (t : Token) → Whole text t → t .end ≤ high → heading other t ≡ heading text t
+  pub heading-near : (t : Token) → Whole text t → t .end ≤ high → heading other t ≡ heading text t
   heading-near t w l =
       ap (λ b. cond b (Some kind.Resource) (cond (admits other (slot.Word words.Event) t) (Some kind.Event) (cond (admits other (slot.Word words.Task) t) (Some kind.Task) None))) (admits-near (slot.Word words.Resource) t w l)
       ∙ ap (λ b. cond (admits text (slot.Word words.Resource) t) (Some kind.Resource) (cond b (Some kind.Event) (cond (admits other (slot.Word words.Task) t) (Some kind.Task) None))) (admits-near (slot.Word words.Event) t w l)

@@ -3,3 +3,4 @@ pub mod Accepts
 pub mod Complete
 pub mod Agrees
 pub mod Sits
+pub mod Cuts

@@ -1,8 +1,12 @@
 -- Faults on their way up, and steps that may fail.
+use mathlib.Core.List.{List}
 use Prim.Native.Nat.{ℕ}
+use lib.Chars.{codes}
 use Rattle.std.specs.declared.result.Result.{Result}
 use Rattle.std.specs.declared.result.Result.the-variants.{Ok, Err}
 use Rattle.letters.specs.declared.fault.LettersFault.{LettersFault}
+use Rattle.letters.specs.Faults as letters
+use Rattle.grammar.specs.declared.fault.GrammarCause.{GrammarCause}
 use Rattle.grammar.specs.declared.fault.GrammarCause.the-variants as cause
 use Rattle.grammar.specs.declared.fault.GrammarFault.{GrammarFault}
 
@@ -19,6 +23,12 @@ raised f = record { cause = cause.Letters (f .cause); place = f .place }
 abbrev pub misplaced : ℕ → GrammarFault
 misplaced place = record { cause = cause.Misplaced; place = place }
 
+-- What a layer below gives, with its fault raised.
 abbrev pub lifted : {A : Type 0} → Result A LettersFault → Result A GrammarFault
 lifted (Ok x) = Ok x
 lifted (Err f) = Err (raised f)
+
+-- What was wrong, in a few words.
+abbrev pub explanation : GrammarCause → List ℕ
+explanation (cause.Letters c) = letters.explanation c
+explanation cause.Misplaced = codes "this may not stand here, or the text ended"

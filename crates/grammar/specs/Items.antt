@@ -29,6 +29,7 @@ use Rattle.grammar.specs.Slots.{lexed, admits, expected, followed}
 abbrev pub begun : List ℕ → Result State GrammarFault
 begun text = and-then (lifted (measured text)) (λ _. Ok state.Start)
 
+-- The token itself, where it is a name.
 abbrev pub if-name : Token → What → Result Token GrammarFault
 if-name t what.Name = Ok t
 if-name t (what.Number n) = Err (misplaced (t .place))
@@ -36,9 +37,11 @@ if-name t what.Quoted = Err (misplaced (t .place))
 if-name t (what.Mark c) = Err (misplaced (t .place))
 if-name t what.End = Err (misplaced (t .place))
 
+-- The next token, which has to be a name.
 abbrev pub named : List ℕ → ℕ → Result Token GrammarFault
 named text pos = and-then (lexed text pos) (λ t. if-name t (t .what))
 
+-- The value of the token and the token itself, where it is a number.
 abbrev pub if-number : Token → What → Result (ℕ × Token) GrammarFault
 if-number t what.Name = Err (misplaced (t .place))
 if-number t (what.Number n) = Ok (n, t)
@@ -46,16 +49,18 @@ if-number t what.Quoted = Err (misplaced (t .place))
 if-number t (what.Mark c) = Err (misplaced (t .place))
 if-number t what.End = Err (misplaced (t .place))
 
+-- The next token, which has to be a number.
 abbrev pub numeral-at : List ℕ → ℕ → Result (ℕ × Token) GrammarFault
 numeral-at text pos = and-then (lexed text pos) (λ t. if-number t (t .what))
 
+-- The kind of object that the token is the keyword of.
 abbrev pub heading : List ℕ → Token → Option Kind
 heading text t =
     cond (admits text (slot.Word word.Resource) t) (Some kind.Resource)
     (cond (admits text (slot.Word word.Event) t) (Some kind.Event)
     (cond (admits text (slot.Word word.Task) t) (Some kind.Task) None))
 
--- what has to stand after a state, before the next token that is judged
+-- What has to stand after a state, before the next token that is judged.
 abbrev pub template : State → List Slot
 template state.Start =
     slot.Word word.OilVersion ∷ slot.Mark marks.Equals ∷ slot.Version ∷ slot.Mark marks.Semicolon ∷ slot.Word word.Cpu ∷ slot.AnyName ∷ slot.Mark marks.Open ∷ []
@@ -71,41 +76,46 @@ template state.Activated =
 template state.Referred = slot.Mark marks.Semicolon ∷ []
 template state.Closed = slot.Mark marks.Semicolon ∷ []
 
+-- A step to the next item, or a fault.
 abbrev pub Stepped : Type 0
 Stepped = Result Step GrammarFault
 
+-- A step that succeeds.
 abbrev pub step : Item → State → ℕ → Stepped
 step i s pos = Ok (record { item = i; state = s; pos = pos })
 
+-- The name after the keyword t of an object.
 abbrev pub declared-at : List ℕ → Token → Option Kind → Stepped
 declared-at text t None = Err (misplaced (t .place))
 declared-at text t (Some k) = and-then (named text (t .end)) (λ n. step (item.Declares k n) (state.Declared k) (n .end))
 
--- the head of an object, or the end of the text
+-- The head of an object, or the end of the text.
 abbrev pub object-at : List ℕ → ℕ → Stepped
 object-at text pos =
     and-then (lexed text pos) (λ t. cond (admits text (slot.Mark marks.Close) t)
     (and-then (followed text (slot.Mark marks.Semicolon ∷ slot.End ∷ []) (t .end)) (λ p. step item.End state.Closed p))
     (declared-at text t (heading text t)))
 
+-- The reference after the keyword t.
 abbrev pub referred-at : List ℕ → Token → Kind → Stepped
 referred-at text t k =
     and-then (expected text (slot.Mark marks.Equals) (t .end)) (λ p. and-then (named text p) (λ n. step (item.Refers k n) state.Referred (n .end)))
 
+-- A task refers to resources and events alone.
 abbrev pub reference-at : List ℕ → Token → Option Kind → Stepped
 reference-at text t None = Err (misplaced (t .place))
 reference-at text t (Some kind.Resource) = referred-at text t kind.Resource
 reference-at text t (Some kind.Event) = referred-at text t kind.Event
 reference-at text t (Some kind.Task) = Err (misplaced (t .place))
 
--- a reference of a task, or the end of the task
+-- A reference of a task, or the end of the task.
 abbrev pub attribute-at : List ℕ → ℕ → Stepped
 attribute-at text pos =
     and-then (lexed text pos) (λ t. cond (admits text (slot.Mark marks.Close) t)
     (step item.Closes state.Closed (t .end))
     (reference-at text t (heading text t)))
 
--- what is judged after the template of a state
+-- What is judged after the template of a state.
 abbrev pub judged-at : List ℕ → State → ℕ → Stepped
 judged-at text state.Start pos = object-at text pos
 judged-at text (state.Declared kind.Resource) pos = object-at text pos
@@ -118,6 +128,6 @@ judged-at text state.Activated pos = attribute-at text pos
 judged-at text state.Referred pos = attribute-at text pos
 judged-at text state.Closed pos = object-at text pos
 
--- from a state up to the next token that is judged
+-- From a state up to the next token that is judged.
 abbrev pub item-at : List ℕ → State → ℕ → Stepped
 item-at text s pos = and-then (followed text (template s) pos) (λ p. judged-at text s p)

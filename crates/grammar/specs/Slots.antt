@@ -37,7 +37,7 @@ spelt word.False = codes "FALSE"
 abbrev pub lexed : List ℕ → ℕ → Result Token GrammarFault
 lexed text pos = lifted (token-at text pos)
 
--- may the token stand at the slot?
+-- The token may stand at the slot.
 abbrev pub admits : List ℕ → Slot → Token → Bool
 admits text (slot.Word w) t = is-name (t .what) && sameBytes (bytes-of text t) (spelt w)
 admits text (slot.Mark m) t = is-mark m (t .what)
@@ -45,12 +45,12 @@ admits text slot.AnyName t = is-name (t .what)
 admits text slot.Version t = is-quoted (t .what) && sameBytes (bytes-of text t) (34 ∷ 50 ∷ 46 ∷ 53 ∷ 34 ∷ [])
 admits text slot.End t = is-end (t .what)
 
--- where the text goes on after a token that has to stand at the slot
+-- Where the text goes on after a token that has to stand at the slot.
 abbrev pub expected : List ℕ → Slot → ℕ → Result ℕ GrammarFault
 expected text s pos =
     and-then (lexed text pos) (λ t. cond (admits text s t) (Ok (t .end)) (Err (misplaced (t .place))))
 
--- .. and after several, one after another
+-- Where the text goes on after tokens that have to stand at the slots, one after another.
 abbrev pub followed : List ℕ → List Slot → ℕ → Result ℕ GrammarFault
 followed text [] pos = Ok pos
 followed text (s ∷ ss) pos = and-then (expected text s pos) (λ p. followed text ss p)

@@ -1,6 +1,6 @@
 // Why the tokens of a text are refused.
 ghost use mathlib.Core.Path.{_≡_};
-ghost use Rattle.grammar.specs.Faults.{raised, misplaced as misplaced-at};
+ghost use Rattle.grammar.specs.Faults.{raised, misplaced as misplaced-at, explanation};
 use letters::fault::LettersCause;
 use letters::fault::LettersCauseDebug;
 use letters::fault::LettersCausePartialEq;
@@ -11,6 +11,18 @@ pub enum GrammarCause {
     Letters(LettersCause),
     // The token is not allowed here, or the text ended.
     Misplaced,
+}
+
+impl GrammarCause {
+    // What was wrong, in a few words.
+    pub fn explain(self) -> &'static str
+        ensures { λ r. ⌜ now r ≡ explanation self ⌝ }
+    {
+        match self {
+            GrammarCause::Letters(cause) => cause.explain(),
+            GrammarCause::Misplaced => "this may not stand here, or the text ended",
+        }
+    }
 }
 
 #[derive(Clone, Copy, PartialEq, Debug)]

@@ -18,7 +18,8 @@ use Rattle.letters.specs.declared.token.What.the-variants as what
 use Rattle.letters.specs.declared.token.Mark.{Mark}
 use Rattle.letters.specs.declared.token.Token.{Token}
 use Rattle.letters.specs.Bytes.{name-start, name-byte, is-digit, in-string}
-use Rattle.letters.specs.Blanks.{begins, blanks}
+use Rattle.letters.specs.Blanks.{begins, skip, counted, blanks}
+use Rattle.letters.specs.Extents.{place-from}
 use Rattle.letters.specs.Tokens.{Lexed, token, unlawful, digits, number-at, name-at, string-at, mark-of, mark-at, head-token, token-at, is-end, is-name, bytes-of}
 
 -- no byte is zero
@@ -126,3 +127,25 @@ lex-goes text pos t h =
       (λ e. let l = g .3 e in let m = g .2 in (omega arith, omega arith)),
       (λ e. subst (λ ys. Named (take (t .end - t .place) ys)) same (g .4 e)),
     )
+
+blanks-go : (xs : List ℕ) → ((n : Bool) → blanks n xs ≤ length xs) → (o : Option Bool) → counted o (λ n. blanks n xs) ≤ suc (length xs)
+blanks-go xs ih None = omega arith
+blanks-go xs ih (Some n) = let l = ih n in omega arith
+
+pub blanks-le : (c : Bool) (xs : List ℕ) → blanks c xs ≤ length xs
+blanks-le c [] = omega arith
+blanks-le c (x ∷ xs) = blanks-go xs (λ n. blanks-le n xs) (skip c x xs)
+
+-- a token, or the place where none begins, lies in the text
+pub place-le : (text : List ℕ) (pos : ℕ) → pos ≤ length text → place-from text pos ≤ length text
+place-le text pos l = let b = blanks-le false (drop pos text) in let d = length-drop pos text in omega arith
+
+pub lex-bound : (text : List ℕ) (pos : ℕ) (t : Token) → pos ≤ length text → token-at text pos ≡ Ok t → t .end ≤ length text
+lex-bound text pos t l h =
+    let k = blanks false (drop pos text) in
+    let xs = drop k (drop pos text) in
+    let g = subst (Goes (pos + k) xs) h (goes-token (pos + k) xs) in
+    let p = place-le text pos l in
+    let a = length-drop k (drop pos text) in
+    let b = length-drop pos text in
+    omega (arith, g .2)

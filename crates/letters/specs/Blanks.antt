@@ -18,6 +18,7 @@ skip comment b bs =
     cond comment (Some (not (eqb b 10)))
     (cond (eqb b 47 && begins 47 bs) (Some true) (cond (is-blank b) (Some false) None))
 
+-- One byte and those after it, where it is skipped.
 abbrev pub counted : Option Bool → (Bool → ℕ) → ℕ
 counted None more = 0
 counted (Some next) more = 1 + more next

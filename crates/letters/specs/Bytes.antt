@@ -8,6 +8,7 @@ use Rattle.std.specs.Text.{asciiLetter, asciiDigit}
 abbrev pub name-start : ℕ → Bool
 name-start b = asciiLetter b || eqb b 95
 
+-- A decimal digit.
 abbrev pub is-digit : ℕ → Bool
 is-digit b = asciiDigit b
 

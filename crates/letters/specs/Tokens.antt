@@ -20,9 +20,11 @@ use Rattle.letters.specs.declared.fault.LettersFault.{LettersFault}
 use Rattle.letters.specs.Bytes.{name-start, name-byte, is-digit, in-string}
 use Rattle.letters.specs.Blanks.{begins, blanks}
 
+-- A token, or a fault.
 abbrev pub Lexed : Type 0
 Lexed = Result Token LettersFault
 
+-- A fault with this cause at this place.
 abbrev pub fault : LettersCause → ℕ → LettersFault
 fault c place = record { cause = c; place = place }
 
@@ -34,10 +36,11 @@ measured text = cond (ltb 32768 (length text)) (Err (fault cause.TooLong 32768))
 abbrev pub token : What → ℕ → ℕ → Lexed
 token w place n = Ok (record { what = w; place = place; end = place + n })
 
+-- No lawful token begins at the place.
 abbrev pub unlawful : ℕ → Lexed
 unlawful place = Err (fault cause.NoToken place)
 
--- The mark with this character code: { } = ;
+-- The mark with this character code: one of { } = and the semicolon.
 abbrev pub mark-of : ℕ → Option Mark
 mark-of c =
     cond (eqb c 123) (Some marks.Open)
@@ -45,6 +48,7 @@ mark-of c =
     (cond (eqb c 61) (Some marks.Equals)
     (cond (eqb c 59) (Some marks.Semicolon) None)))
 
+-- Both are the same mark.
 abbrev pub same-mark : Mark → Mark → Bool
 same-mark marks.Open marks.Open = true
 same-mark marks.Open marks.Close = false
@@ -69,6 +73,7 @@ digits count value [] = Some (value, count)
 digits count value (b ∷ bs) =
     cond (is-digit b) (cond (eqb count 9) None (digits (count + 1) (value * 10 + (b - 48)) bs)) (Some (value, count))
 
+-- The number that was found, if it is not too long.
 abbrev pub number-at : ℕ → Option (ℕ × ℕ) → Lexed
 number-at place None = unlawful place
 number-at place (Some found) = token (what.Number (found .0)) place (found .1)
@@ -81,6 +86,7 @@ name-at place n = cond (leb n 32) (token what.Name place n) (unlawful place)
 abbrev pub string-at : ℕ → ℕ → List ℕ → Lexed
 string-at place n rest = cond (leb n 32) (cond (begins 34 rest) (token what.Quoted place (n + 2)) (unlawful place)) (unlawful place)
 
+-- The mark that was found, if there is one.
 abbrev pub mark-at : ℕ → Option Mark → Lexed
 mark-at place None = unlawful place
 mark-at place (Some m) = token (what.Mark m) place 1
@@ -102,6 +108,7 @@ token-at text pos = head-token (pos + blanks false (drop pos text)) (drop (blank
 abbrev pub bytes-of : List ℕ → Token → List ℕ
 bytes-of text t = take (t .end - t .place) (drop (t .place) text)
 
+-- It is a name.
 abbrev pub is-name : What → Bool
 is-name what.Name = true
 is-name (what.Number n) = false
@@ -109,6 +116,7 @@ is-name what.Quoted = false
 is-name (what.Mark c) = false
 is-name what.End = false
 
+-- It is a string.
 abbrev pub is-quoted : What → Bool
 is-quoted what.Name = false
 is-quoted (what.Number n) = false
@@ -116,6 +124,7 @@ is-quoted what.Quoted = true
 is-quoted (what.Mark c) = false
 is-quoted what.End = false
 
+-- It is this mark.
 abbrev pub is-mark : Mark → What → Bool
 is-mark m what.Name = false
 is-mark m (what.Number n) = false
@@ -123,6 +132,7 @@ is-mark m what.Quoted = false
 is-mark m (what.Mark c) = same-mark m c
 is-mark m what.End = false
 
+-- It is the end of the text.
 abbrev pub is-end : What → Bool
 is-end what.Name = false
 is-end (what.Number n) = false

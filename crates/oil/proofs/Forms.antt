@@ -6,7 +6,7 @@ use Prim.Native.Nat.{ℕ, zero, suc, _+_, _≤_, _<_}
 use native.Mathlib.Omega.{arith}
 use lib.ListN.{length, length-append}
 use Rattle.grammar.specs.Language.{Reference, Object, resource, event, task}
-use Rattle.oil.specs.Meaning.{At, In, Distinct, name-of, names-of, resources-of, events-of, priorities-of, activations-of, Known-in, Grounded, Well-formed}
+use Rattle.oil.specs.Meaning.{At, In, Distinct, name-of, names-of, resources-of, events-of, priorities-of, activations-of, Earlier-in, Grounded, Well-formed}
 use Rattle.oil.proofs.Vectors.{at-split, at-low, in-split}
 use Rattle.oil.proofs.Judged.{names-app, resources-app, events-app, priorities-app, Allowed, Allowed-from, joined}
 

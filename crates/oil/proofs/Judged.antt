@@ -1,50 +1,37 @@
 -- A text of some objects, judged object by object.
 use mathlib.Core.Path.{_≡_, refl, sym, ap, subst, _∙_}
-use mathlib.Core.Bool.{Bool, true, false, not, cond}
+use mathlib.Core.Bool.{true, false}
 use mathlib.Core.List.{List, [], _∷_, _++_, append-nil, append-assoc}
-use mathlib.Core.Logic.{_⊎_, inl, inr, ⊎-elim}
-use Prim.Native.Nat.{ℕ, zero, suc, _+_, _-_, _*_, _^_, _≤_, _<_}
+use mathlib.Core.Logic.{⊎-elim}
+use Prim.Native.Nat.{ℕ, zero, suc, _+_, _-_, _^_, _≤_, _<_}
 use native.Mathlib.Omega.{arith}
 use lib.Bits.{bitOr}
 use lib.Dec.{eqb, ltb}
-use lib.ListN.{length, getD, set, replicate, length-append}
-use Rattle.std.proofs.shelf.Tests.{cases-bool, cond-true, cond-false, cond-both, eqb-true, eqb-false, ltb-true, ltb-false}
-use Rattle.std.specs.shelf.Text.{sameBytes}
+use lib.ListN.{length, length-append}
+use Rattle.std.proofs.shelf.Tests.{cond-both, eqb-true, eqb-false, ltb-true, ltb-false}
 use Rattle.std.specs.declared.option.Option.{Option}
 use Rattle.std.specs.declared.option.Option.the-variants.{Some, None}
 use Rattle.std.specs.declared.result.Result.{Result}
 use Rattle.std.specs.declared.result.Result.the-variants.{Ok, Err}
 use Rattle.std.specs.Results.{Cases}
-use Rattle.letters.specs.declared.token.Token.{Token}
+use Rattle.vectors.specs.Vectors.{in-vector}
 use Rattle.grammar.specs.declared.fault.GrammarFault.{GrammarFault}
 use Rattle.grammar.specs.declared.item.Kind.{Kind}
 use Rattle.grammar.specs.declared.item.Kind.the-variants as kind
 use Rattle.grammar.specs.declared.item.State.{State}
-use Rattle.grammar.specs.declared.item.State.the-variants as state
-use Rattle.grammar.specs.declared.item.Item.{Item}
-use Rattle.grammar.specs.declared.item.Item.the-variants as item
 use Rattle.grammar.specs.declared.item.Step.{Step}
-use Rattle.oil.specs.declared.table.Holds.{Holds}
-use Rattle.oil.specs.declared.table.Holds.the-variants as holds
-use Rattle.oil.specs.declared.table.NameRecord.{NameRecord}
-use Rattle.oil.specs.declared.draft.Draft.{Draft}
-use Rattle.oil.specs.declared.fault.PlanFault.{PlanFault}
 use Rattle.grammar.specs.Faults.{and-then}
-use Rattle.letters.specs.Tokens.{bytes-of}
-use Rattle.grammar.specs.Slots.{followed}
-use Rattle.grammar.specs.Items.{template, judged-at, object-at, attribute-at, item-at, step}
-use Rattle.oil.specs.Table.{keyed, no-key, blank, find}
-use Rattle.oil.specs.Draft.{Drafted, added, prioritized, activated, with-resources, with-events, with-count, with-users, with-registered, grown, next-number, used, finished}
-use Rattle.oil.specs.Faults.{refusal}
-use Rattle.vectors.specs.Vectors.{in-vector}
-use Rattle.oil.specs.Judging.{lift-plan, key-of, as-holds, new-record, unless-known, introduced, entered, referred-to, referred-by, judged, noted, proceed, resume, noted-at, gathered}
-use Rattle.grammar.specs.Language.{Sign, word, num, str, mark, Scan, At-end, Reference, uses, awaits, Object, resource, event, task, references, resource-rest, event-rest, activation-rest, priority-rest, task-rest, objects}
-use Rattle.oil.specs.Meaning.{At, In, name-of, names-of, resources-of, events-of, priorities-of, Known, All-known, vector, uses-in, awaits-in, users-of, registered-of, Plan-of}
-use Rattle.oil.proofs.Vectors.{at-new, at-split, in-old, vector-more, Found, found-more, taken-in, taken-out}
-use Rattle.letters.proofs.Named.{Named}
-use Rattle.oil.proofs.Names.{key-for}
-use Rattle.oil.proofs.Stands.{Ext, ext-same, ext-more, Entry, Looked, Table, enter, Vecs, vecs-declare, vecs-add, vecs-like, Drawn}
-use Rattle.grammar.proofs.Complete.{scan-room, fixed-back, numeral-back, open-object, close-text, close-task, refer-to, item-of}
+use Rattle.grammar.specs.Items.{item-at}
+use Rattle.grammar.specs.Language.{Object, resource, event, task}
+use Rattle.oil.specs.declared.table.Known.{Known}
+use Rattle.oil.specs.declared.draft.Draft.{Draft}
+use Rattle.oil.specs.Faults.{raised-plan}
+use Rattle.oil.specs.Draft.{Drafted, added, prioritized, activated, with-resources, with-events, with-tasks, with-users, with-registered, grown, next-number}
+use Rattle.oil.specs.Judging.{lift-plan, unless-known, referred-to, referred-by, judged, proceed, resume}
+use Rattle.oil.specs.Reading.{Entry, look-up, learnt, names-after, names-at, gathered}
+use Rattle.oil.specs.Meaning.{At, In, name-of, names-of, resources-of, events-of, priorities-of, All-earlier, uses-in, awaits-in, users-of, registered-of}
+use Rattle.oil.proofs.Vectors.{at-new, at-split, vector-more}
+use Rattle.oil.proofs.Stands.{ext-same, ext-more, Stands-for, Looked, Book, enter, vecs-declare, vecs-like, Drawn}
 
 -- the lists of several objects
 pub names-app : (xs bs : List Object) → names-of (xs ++ bs) ≡ names-of xs ++ names-of bs
@@ -75,18 +62,18 @@ users-app n (resource m ∷ xs) bs = users-app n xs bs
 users-app n (event m ∷ xs) bs = users-app n xs bs
 users-app n (task m p a rs ∷ xs) bs = ap (λ l. uses-in n p rs ++ l) (users-app n xs bs) ∙ sym (append-assoc (uses-in n p rs) (users-of n xs) (users-of n bs))
 
-pub listeners-app : (n : List ℕ) (xs bs : List Object) → registered-of n (xs ++ bs) ≡ registered-of n xs ++ registered-of n bs
-listeners-app n [] bs = refl
-listeners-app n (resource m ∷ xs) bs = listeners-app n xs bs
-listeners-app n (event m ∷ xs) bs = listeners-app n xs bs
-listeners-app n (task m p a rs ∷ xs) bs = ap (λ l. awaits-in n p rs ++ l) (listeners-app n xs bs) ∙ sym (append-assoc (awaits-in n p rs) (registered-of n xs) (registered-of n bs))
+pub registered-app : (n : List ℕ) (xs bs : List Object) → registered-of n (xs ++ bs) ≡ registered-of n xs ++ registered-of n bs
+registered-app n [] bs = refl
+registered-app n (resource m ∷ xs) bs = registered-app n xs bs
+registered-app n (event m ∷ xs) bs = registered-app n xs bs
+registered-app n (task m p a rs ∷ xs) bs = ap (λ l. awaits-in n p rs ++ l) (registered-app n xs bs) ∙ sym (append-assoc (awaits-in n p rs) (registered-of n xs) (registered-of n bs))
 
 -- what an object needs after others
 abbrev pub Allowed : List Object → Object → Type 0
 Allowed before (resource n) = (In (names-of before) n → ⊥) × (length (resources-of before) < 32)
 Allowed before (event n) = (In (names-of before) n → ⊥) × (length (events-of before) < 32)
 Allowed before (task n p a rs) =
-    (In (names-of before) n → ⊥) × (length (priorities-of before) < 64) × (p < 64) × (In (priorities-of before) p → ⊥) × (a ≡ 1) × All-known before rs
+    (In (names-of before) n → ⊥) × (length (priorities-of before) < 64) × (p < 64) × (In (priorities-of before) p → ⊥) × (a ≡ 1) × All-earlier before rs
 
 abbrev pub Allowed-from : List Object → List Object → Type 0
 Allowed-from before [] = 0 < length (priorities-of before)
@@ -96,19 +83,18 @@ abbrev pub joined : List Object → List Object → List Object
 joined before [] = before
 joined before (o ∷ os) = joined (before ++ (o ∷ [])) os
 
--- the draft and the table are those of the objects
-pub record Tree (os : List Object) (d : Draft) (names : List NameRecord) : Type 0 where
-  pub table : Table (names-of os) (resources-of os) (events-of os) (used d) names
+-- the draft and the names are those of the objects
+pub record Tree (os : List Object) (d : Draft) (es : List Entry) : Type 0 where
+  pub book : Book (names-of os) (resources-of os) (events-of os) es
   pub drawn : Drawn (priorities-of os) (resources-of os) (events-of os) (λ n. users-of n os) (λ n. registered-of n os) (length (priorities-of os)) d
 
-pub table-like : {ns rn en ns' rn' en' : List (List ℕ)} {u u' : ℕ} {names : List NameRecord} → ns ≡ ns' → rn ≡ rn' → en ≡ en' → u ≡ u' → Table ns rn en u names → Table ns' rn' en' u' names
-table-like {ns} {rn} {en} {ns'} {rn'} {en'} {u} {u'} {names} a b c e t =
-    subst (λ x. Table ns' rn' en' x names) e (subst (λ x. Table ns' rn' x u names) c (subst (λ x. Table ns' x en u names) b (subst (λ x. Table x rn en u names) a t)))
+pub book-like : {ns rn en ns' rn' en' : List (List ℕ)} {es : List Entry} → ns ≡ ns' → rn ≡ rn' → en ≡ en' → Book ns rn en es → Book ns' rn' en' es
+book-like {ns} {rn} {en} {ns'} {rn'} {en'} {es} a b e t =
+    subst (λ x. Book ns' rn' x es) e (subst (λ x. Book ns' x en es) b (subst (λ x. Book x rn en es) a t))
 
 pub drawn-like : {ps ps' : List ℕ} {rn en rn' en' : List (List ℕ)} {us us' ls ls' : List ℕ → List ℕ} {c c' : ℕ} {d : Draft} → ps ≡ ps' → rn ≡ rn' → en ≡ en' → ((m : List ℕ) → us' m ≡ us m) → ((m : List ℕ) → ls' m ≡ ls m) → c ≡ c' → Drawn ps rn en us ls c d → Drawn ps' rn' en' us' ls' c' d
 drawn-like {ps} {ps'} {rn} {en} {rn'} {en'} {us} {us'} {ls} {ls'} {c} {c'} {d} a b e f g h x =
     let y : Drawn ps rn en us' ls' c d = record {
-      same-declared = x .same-declared;
       found = x .found;
       same-count = x .same-count;
       same-resources = x .same-resources;
@@ -121,44 +107,35 @@ drawn-like {ps} {ps'} {rn} {en} {rn'} {en'} {us} {us'} {ls} {ls'} {c} {c'} {d} a
     } in
     subst (λ k. Drawn ps' rn' en' us' ls' k d) h (subst (λ l. Drawn ps' rn' l us' ls' c d) e (subst (λ l. Drawn ps' l en us' ls' c d) b (subst (λ l. Drawn l rn en us' ls' c d) a y)))
 
-pub entry-in : (ns rn en : List (List ℕ)) (n : List ℕ) (h : Holds) (i : ℕ) → Entry ns rn en n h i → In ns n
-entry-in ns rn en n holds.Nothing i e = absurd e
-entry-in ns rn en n holds.Resource i e = e .0
-entry-in ns rn en n holds.Event i e = e .0
-entry-in ns rn en n holds.Task i e = e .0
+pub stands-in : (ns rn en : List (List ℕ)) (n : List ℕ) (k : Kind) (i : ℕ) → Stands-for ns rn en n k i → In ns n
+stands-in ns rn en n kind.Resource i e = e .0
+stands-in ns rn en n kind.Event i e = e .0
+stands-in ns rn en n kind.Task i e = e .0
 
 -- one object more
-module _ {os : List Object} {d : Draft} {names : List NameRecord} (t : Tree os d names) (n : List ℕ) (nm : Named n) (key : List ℕ) (is : key ≡ key-for n) (none : find names key ≡ None) where
-  abbrev pub free : find names (key-for n) ≡ None
-  free = ap (find names) (sym is) ∙ none
-
+module _ {os : List Object} {d : Draft} {es : List Entry} (t : Tree os d es) (n : List ℕ) (none : look-up es n ≡ None) where
   pub fresh : (In (names-of os) n → ⊥) × (In (resources-of os) n → ⊥) × (In (events-of os) n → ⊥)
-  fresh = subst (Looked (names-of os) (resources-of os) (events-of os) n) free (t .table .looked n nm)
+  fresh = subst (Looked (names-of os) (resources-of os) (events-of os) n) none (t .book .looked n)
 
-  pub tree-resource : (d .resources ≡ 32 → ⊥) → Tree (os ++ (resource n ∷ [])) (with-resources d (d .resources + 1)) (set names (used d) (record { name = key; holds = holds.Resource; number = d .resources }))
+  pub tree-resource : (d .resources ≡ 32 → ⊥) → Tree (os ++ (resource n ∷ [])) (with-resources d (d .resources + 1)) (record { name = n; kind = kind.Resource; number = d .resources } ∷ es)
   tree-resource low =
       let x = t .drawn in
       let o = resource n ∷ [] in
       let rn = resources-of os in
       let number = x .same-resources in
       let a = x .few-resources in
-      let b = x .few-events in
-      let c = x .few-tasks in
-      let e1 = x .same-count in
-      let e2 = x .same-events in
       let sized = length-append rn (n ∷ []) in
       record {
-        table = table-like (sym (names-app os o)) (sym (resources-app os o)) (sym (events-app os o ∙ append-nil (events-of os))) (omega arith)
-            (enter (record { name = key; holds = holds.Resource; number = d .resources }) (ext-more n (names-of os)) (ext-more n rn) (ext-same n (events-of os)) (t .table) nm is free (omega arith) (
+        book = book-like (sym (names-app os o)) (sym (resources-app os o)) (sym (events-app os o ∙ append-nil (events-of os)))
+            (enter kind.Resource (d .resources) (ext-more n (names-of os)) (ext-more n rn) (ext-same n (events-of os)) (t .book) (
               (length (names-of os), at-new (names-of os) n),
               subst (λ i. At (rn ++ (n ∷ [])) i n) (sym number) (at-new rn n),
               (λ j h. ⊎-elim (λ old. absurd (fresh .1 (j, old))) (λ new. new .0 ∙ sym number) (at-split rn n j n h)),
               fresh .2,
             ));
         drawn = drawn-like {us = λ m. users-of m os} {ls = λ m. registered-of m os} (sym (priorities-app os o ∙ append-nil (priorities-of os))) (sym (resources-app os o)) (sym (events-app os o ∙ append-nil (events-of os)))
-            (λ m. users-app m os o ∙ append-nil (users-of m os)) (λ m. listeners-app m os o ∙ append-nil (registered-of m os)) (ap length (sym (priorities-app os o ∙ append-nil (priorities-of os))))
+            (λ m. users-app m os o ∙ append-nil (users-of m os)) (λ m. registered-app m os o ∙ append-nil (registered-of m os)) (ap length (sym (priorities-app os o ∙ append-nil (priorities-of os))))
             (record {
-              same-declared = x .same-declared;
               found = x .found;
               same-count = x .same-count;
               same-resources = omega arith;
@@ -171,30 +148,25 @@ module _ {os : List Object} {d : Draft} {names : List NameRecord} (t : Tree os d
             });
       }
 
-  pub tree-event : (d .events ≡ 32 → ⊥) → Tree (os ++ (event n ∷ [])) (with-events d (d .events + 1)) (set names (used d) (record { name = key; holds = holds.Event; number = d .events }))
+  pub tree-event : (d .events ≡ 32 → ⊥) → Tree (os ++ (event n ∷ [])) (with-events d (d .events + 1)) (record { name = n; kind = kind.Event; number = d .events } ∷ es)
   tree-event low =
       let x = t .drawn in
       let o = event n ∷ [] in
       let en = events-of os in
       let number = x .same-events in
-      let a = x .few-resources in
-      let b = x .few-events in
-      let c = x .few-tasks in
-      let e1 = x .same-count in
-      let e2 = x .same-resources in
+      let a = x .few-events in
       let sized = length-append en (n ∷ []) in
       record {
-        table = table-like (sym (names-app os o)) (sym (resources-app os o ∙ append-nil (resources-of os))) (sym (events-app os o)) (omega arith)
-            (enter (record { name = key; holds = holds.Event; number = d .events }) (ext-more n (names-of os)) (ext-same n (resources-of os)) (ext-more n en) (t .table) nm is free (omega arith) (
+        book = book-like (sym (names-app os o)) (sym (resources-app os o ∙ append-nil (resources-of os))) (sym (events-app os o))
+            (enter kind.Event (d .events) (ext-more n (names-of os)) (ext-same n (resources-of os)) (ext-more n en) (t .book) (
               (length (names-of os), at-new (names-of os) n),
               subst (λ i. At (en ++ (n ∷ [])) i n) (sym number) (at-new en n),
               (λ j h. ⊎-elim (λ old. absurd (fresh .2 (j, old))) (λ new. new .0 ∙ sym number) (at-split en n j n h)),
               fresh .1,
             ));
         drawn = drawn-like {us = λ m. users-of m os} {ls = λ m. registered-of m os} (sym (priorities-app os o ∙ append-nil (priorities-of os))) (sym (resources-app os o ∙ append-nil (resources-of os))) (sym (events-app os o))
-            (λ m. users-app m os o ∙ append-nil (users-of m os)) (λ m. listeners-app m os o ∙ append-nil (registered-of m os)) (ap length (sym (priorities-app os o ∙ append-nil (priorities-of os))))
+            (λ m. users-app m os o ∙ append-nil (users-of m os)) (λ m. registered-app m os o ∙ append-nil (registered-of m os)) (ap length (sym (priorities-app os o ∙ append-nil (priorities-of os))))
             (record {
-              same-declared = x .same-declared;
               found = x .found;
               same-count = x .same-count;
               same-resources = x .same-resources;
@@ -208,18 +180,10 @@ module _ {os : List Object} {d : Draft} {names : List NameRecord} (t : Tree os d
       }
 
   -- the name of a task, before its priority
-  pub task-table : (d .tasks ≡ 64 → ⊥) → Table (names-of os ++ (n ∷ [])) (resources-of os) (events-of os) (used (with-count d (d .tasks + 1))) (set names (used d) (record { name = key; holds = holds.Task; number = 0 }))
-  task-table low =
-      let x = t .drawn in
-      let a = x .few-resources in
-      let b = x .few-events in
-      let c = x .few-tasks in
-      let e0 = x .same-count in
-      let e1 = x .same-resources in
-      let e2 = x .same-events in
-      table-like refl refl refl (omega arith)
-      (enter (record { name = key; holds = holds.Task; number = 0 }) (ext-more n (names-of os)) (ext-same n (resources-of os)) (ext-same n (events-of os)) (t .table) nm is free (omega arith)
-      ((length (names-of os), at-new (names-of os) n), fresh .1, fresh .2))
+  pub task-book : Book (names-of os ++ (n ∷ [])) (resources-of os) (events-of os) (record { name = n; kind = kind.Task; number = 0 } ∷ es)
+  task-book =
+      enter kind.Task 0 (ext-more n (names-of os)) (ext-same n (resources-of os)) (ext-same n (events-of os)) (t .book)
+      ((length (names-of os), at-new (names-of os) n), fresh .1, fresh .2)
 
 abbrev pub with-task : Draft → ℕ → Draft
 with-task d v = record {
@@ -233,14 +197,13 @@ with-task d v = record {
 }
 
 -- a task and its priority, before its references
-pub task-drawn : {os : List Object} {d : Draft} {names : List NameRecord} (v : ℕ) → v < 64 → Tree os d names → (d .tasks ≡ 64 → ⊥) → Drawn (priorities-of os ++ (v ∷ [])) (resources-of os) (events-of os) (λ m. users-of m os) (λ m. registered-of m os) (length (priorities-of os) + 1) (with-task (with-count d (d .tasks + 1)) v)
+pub task-drawn : {os : List Object} {d : Draft} {es : List Entry} (v : ℕ) → v < 64 → Tree os d es → (d .tasks ≡ 64 → ⊥) → Drawn (priorities-of os ++ (v ∷ [])) (resources-of os) (events-of os) (λ m. users-of m os) (λ m. registered-of m os) (length (priorities-of os) + 1) (with-task (with-tasks d (d .tasks + 1)) v)
 task-drawn {os} {d} v fits t low =
     let x = t .drawn in
     let e = x .same-count in
     let c = x .few-tasks in
     record {
-      same-declared = ap (λ a. bitOr a (2 ^ v)) (x .same-declared) ∙ sym (vector-more 0 (priorities-of os) v);
-      found = found-more (d .declared) (priorities-of os) v fits (x .found);
+      found = vector-more (d .declared) (priorities-of os) v fits (x .found);
       same-count = omega arith;
       same-resources = x .same-resources;
       same-events = x .same-events;
@@ -260,18 +223,24 @@ then-assoc : {A B C E : Type 0} (r : Result A E) (g : A → B) (h : B → Result
 then-assoc (Ok x) g h = refl
 then-assoc (Err e) g h = refl
 
-abbrev pub onward : ℕ → List ℕ → List NameRecord → Draft → Step → Drafted
-onward m text names d st =
-    and-then (judged text names d (st .item)) (λ e. resume (proceed (st .item) e st) (λ b t q. gathered m text (noted text names d (st .item)) b t q))
+abbrev pub onward : ℕ → List ℕ → List Entry → Draft → Step → Drafted
+onward m text es d st =
+    and-then (judged text (look-up es) d (st .item)) (λ e. resume (proceed (st .item) e st) (λ b. Ok b) (λ b t q. gathered m text (names-after text es d (st .item)) b t q))
 
-pub gathered-item : (m : ℕ) (text : List ℕ) (names : List NameRecord) (d : Draft) (s : State) (pos : ℕ) (st : Step) → item-at text s pos ≡ Ok st → 0 < m → gathered m text names d s pos ≡ onward (m - 1) text names d st
+pub gathered-item : (m : ℕ) (text : List ℕ) (es : List Entry) (d : Draft) (s : State) (pos : ℕ) (st : Step) → item-at text s pos ≡ Ok st → 0 < m → gathered m text es d s pos ≡ onward (m - 1) text es d st
 unfolding gathered
-gathered-item zero text names d s pos st h l = absurd (omega arith)
-gathered-item (suc m) text names d s pos st h l =
+gathered-item zero text es d s pos st h l = absurd (omega arith)
+gathered-item (suc m) text es d s pos st h l =
     let e : m ≡ suc m - 1 = omega arith in
-    ap (λ (r : Result Step GrammarFault). and-then (and-then (lift-plan r) (λ u. and-then (judged text names d (u .item)) (λ b. Ok (proceed (u .item) b u)))) (λ p. resume p (λ b t q. gathered m text (noted-at text names d r) b t q))) h
-    ∙ then-assoc (judged text names d (st .item)) (λ b. proceed (st .item) b st) (λ p. resume p (λ b t q. gathered m text (noted text names d (st .item)) b t q))
-    ∙ ap (λ k. onward k text names d st) e
+    ap (λ (r : Result Step GrammarFault). and-then (and-then (lift-plan r) (λ u. and-then (judged text (look-up es) d (u .item)) (λ b. Ok (proceed (u .item) b u)))) (λ p. resume p (λ b. Ok b) (λ b t q. gathered m text (names-at text es d r) b t q))) h
+    ∙ then-assoc (judged text (look-up es) d (st .item)) (λ b. proceed (st .item) b st) (λ p. resume p (λ b. Ok b) (λ b t q. gathered m text (names-after text es d (st .item)) b t q))
+    ∙ ap (λ k. onward k text es d st) e
+
+pub gathered-fault : (m : ℕ) (text : List ℕ) (es : List Entry) (d : Draft) (s : State) (pos : ℕ) (g : GrammarFault) → item-at text s pos ≡ Err g → 0 < m → gathered m text es d s pos ≡ Err (raised-plan g)
+unfolding gathered
+gathered-fault zero text es d s pos g h l = absurd (omega arith)
+gathered-fault (suc m) text es d s pos g h l =
+    ap (λ (r : Result Step GrammarFault). and-then (and-then (lift-plan r) (λ u. and-then (judged text (look-up es) d (u .item)) (λ b. Ok (proceed (u .item) b u)))) (λ p. resume p (λ b. Ok b) (λ b t q. gathered m text (names-at text es d r) b t q))) h
 
 abbrev pub Limit : Draft → Kind → Type 0
 Limit d kind.Resource = d .resources ≡ 32
@@ -281,17 +250,17 @@ Limit d kind.Task = d .tasks ≡ 64
 abbrev pub later : Draft → Kind → Draft
 later d kind.Resource = with-resources d (d .resources + 1)
 later d kind.Event = with-events d (d .events + 1)
-later d kind.Task = with-count d (d .tasks + 1)
+later d kind.Task = with-tasks d (d .tasks + 1)
 
 module _ (P : Draft → Type 0) (N : Type 0) where
-  pub declares-says : (names : List NameRecord) (d : Draft) (r : NameRecord) (place : ℕ) (k : Kind) (found : Option NameRecord) (cont : Draft → List NameRecord → Drafted) → ((x : NameRecord) → found ≡ Some x → N) → (Limit d k → N) → (found ≡ None → (Limit d k → ⊥) → Cases (cont (later d k) (set names (used d) r)) P (λ _. N)) → Cases (and-then (unless-known found place (grown d k place)) (λ e. cont e (entered names d r (unless-known found place (grown d k place))))) P (λ _. N)
-  declares-says names d r place k (Some x) cont known full more = known x refl
-  declares-says names d r place kind.Resource None cont known full more =
-      cond-both (eqb (d .resources) 32) _ _ (λ (x : Drafted). Cases (and-then x (λ e. cont e (entered names d r x))) P (λ _. N)) (λ y. full (eqb-true (d .resources) 32 y)) (λ n. more refl (eqb-false (d .resources) 32 n))
-  declares-says names d r place kind.Event None cont known full more =
-      cond-both (eqb (d .events) 32) _ _ (λ (x : Drafted). Cases (and-then x (λ e. cont e (entered names d r x))) P (λ _. N)) (λ y. full (eqb-true (d .events) 32 y)) (λ n. more refl (eqb-false (d .events) 32 n))
-  declares-says names d r place kind.Task None cont known full more =
-      cond-both (eqb (d .tasks) 64) _ _ (λ (x : Drafted). Cases (and-then x (λ e. cont e (entered names d r x))) P (λ _. N)) (λ y. full (eqb-true (d .tasks) 64 y)) (λ n. more refl (eqb-false (d .tasks) 64 n))
+  pub declares-says : (es : List Entry) (d : Draft) (n : List ℕ) (place : ℕ) (k : Kind) (found : Option Known) (cont : Draft → List Entry → Drafted) → ((x : Known) → found ≡ Some x → N) → (Limit d k → N) → (found ≡ None → (Limit d k → ⊥) → Cases (cont (later d k) (record { name = n; kind = k; number = next-number d k } ∷ es)) P (λ _. N)) → Cases (and-then (unless-known found place (grown d k place)) (λ e. cont e (learnt es d k n (unless-known found place (grown d k place))))) P (λ _. N)
+  declares-says es d n place k (Some x) cont known full more = known x refl
+  declares-says es d n place kind.Resource None cont known full more =
+      cond-both (eqb (d .resources) 32) _ _ (λ (x : Drafted). Cases (and-then x (λ e. cont e (learnt es d kind.Resource n x))) P (λ _. N)) (λ y. full (eqb-true (d .resources) 32 y)) (λ no. more refl (eqb-false (d .resources) 32 no))
+  declares-says es d n place kind.Event None cont known full more =
+      cond-both (eqb (d .events) 32) _ _ (λ (x : Drafted). Cases (and-then x (λ e. cont e (learnt es d kind.Event n x))) P (λ _. N)) (λ y. full (eqb-true (d .events) 32 y)) (λ no. more refl (eqb-false (d .events) 32 no))
+  declares-says es d n place kind.Task None cont known full more =
+      cond-both (eqb (d .tasks) 64) _ _ (λ (x : Drafted). Cases (and-then x (λ e. cont e (learnt es d kind.Task n x))) P (λ _. N)) (λ y. full (eqb-true (d .tasks) 64 y)) (λ no. more refl (eqb-false (d .tasks) 64 no))
 
   pub priority-says : (d : Draft) (v place : ℕ) (cont : Draft → Drafted) → (63 < v → N) → (in-vector (d .declared) v ≡ true → N) → (v < 64 → in-vector (d .declared) v ≡ false → Cases (cont (with-task d v)) P (λ _. N)) → Cases (and-then (prioritized d v place) cont) P (λ _. N)
   priority-says d v place cont high dup more =
@@ -304,22 +273,20 @@ module _ (P : Draft → Type 0) (N : Type 0) where
       cond-both (eqb v 1) _ _ (λ (x : Drafted). Cases (and-then x cont) P (λ _. N)) (λ y. more (eqb-true v 1 y)) (λ n. bad (eqb-false v 1 n))
 
   module _ (ns rn en : List (List ℕ)) (n : List ℕ) (d : Draft) (place : ℕ) (cont : Draft → Drafted) where
-    uses-by : ((In rn n → ⊥) → N) → ((i : ℕ) → At rn i n → ((j : ℕ) → At rn j n → j ≡ i) → Cases (cont (with-users d (added (d .users) i (d .current)))) P (λ _. N)) → (h : Holds) (i : ℕ) → Entry ns rn en n h i → Cases (and-then (referred-to d kind.Resource h i place) cont) P (λ _. N)
-    uses-by bad good holds.Nothing i e = absurd e
-    uses-by bad good holds.Resource i e = good i (e .1) (e .2)
-    uses-by bad good holds.Event i e = bad (e .3)
-    uses-by bad good holds.Task i e = bad (e .1)
+    uses-by : ((In rn n → ⊥) → N) → ((i : ℕ) → At rn i n → ((j : ℕ) → At rn j n → j ≡ i) → Cases (cont (with-users d (added (d .users) i (d .current)))) P (λ _. N)) → (h : Kind) (i : ℕ) → Stands-for ns rn en n h i → Cases (and-then (referred-to d kind.Resource h i place) cont) P (λ _. N)
+    uses-by bad good kind.Resource i e = good i (e .1) (e .2)
+    uses-by bad good kind.Event i e = bad (e .3)
+    uses-by bad good kind.Task i e = bad (e .1)
 
-    pub uses-says : (found : Option NameRecord) → Looked ns rn en n found → ((In rn n → ⊥) → N) → ((i : ℕ) → At rn i n → ((j : ℕ) → At rn j n → j ≡ i) → Cases (cont (with-users d (added (d .users) i (d .current)))) P (λ _. N)) → Cases (and-then (referred-by d kind.Resource found place) cont) P (λ _. N)
+    pub uses-says : (found : Option Known) → Looked ns rn en n found → ((In rn n → ⊥) → N) → ((i : ℕ) → At rn i n → ((j : ℕ) → At rn j n → j ≡ i) → Cases (cont (with-users d (added (d .users) i (d .current)))) P (λ _. N)) → Cases (and-then (referred-by d kind.Resource found place) cont) P (λ _. N)
     uses-says None l bad good = bad (l .1)
-    uses-says (Some r) l bad good = uses-by bad good (r .holds) (r .number) l
+    uses-says (Some r) l bad good = uses-by bad good (r .kind) (r .number) l
 
-    awaits-by : ((In en n → ⊥) → N) → ((i : ℕ) → At en i n → ((j : ℕ) → At en j n → j ≡ i) → Cases (cont (with-registered d (added (d .registered) i (d .current)))) P (λ _. N)) → (h : Holds) (i : ℕ) → Entry ns rn en n h i → Cases (and-then (referred-to d kind.Event h i place) cont) P (λ _. N)
-    awaits-by bad good holds.Nothing i e = absurd e
-    awaits-by bad good holds.Resource i e = bad (e .3)
-    awaits-by bad good holds.Event i e = good i (e .1) (e .2)
-    awaits-by bad good holds.Task i e = bad (e .2)
+    awaits-by : ((In en n → ⊥) → N) → ((i : ℕ) → At en i n → ((j : ℕ) → At en j n → j ≡ i) → Cases (cont (with-registered d (added (d .registered) i (d .current)))) P (λ _. N)) → (h : Kind) (i : ℕ) → Stands-for ns rn en n h i → Cases (and-then (referred-to d kind.Event h i place) cont) P (λ _. N)
+    awaits-by bad good kind.Resource i e = bad (e .3)
+    awaits-by bad good kind.Event i e = good i (e .1) (e .2)
+    awaits-by bad good kind.Task i e = bad (e .2)
 
-    pub awaits-says : (found : Option NameRecord) → Looked ns rn en n found → ((In en n → ⊥) → N) → ((i : ℕ) → At en i n → ((j : ℕ) → At en j n → j ≡ i) → Cases (cont (with-registered d (added (d .registered) i (d .current)))) P (λ _. N)) → Cases (and-then (referred-by d kind.Event found place) cont) P (λ _. N)
+    pub awaits-says : (found : Option Known) → Looked ns rn en n found → ((In en n → ⊥) → N) → ((i : ℕ) → At en i n → ((j : ℕ) → At en j n → j ≡ i) → Cases (cont (with-registered d (added (d .registered) i (d .current)))) P (λ _. N)) → Cases (and-then (referred-by d kind.Event found place) cont) P (λ _. N)
     awaits-says None l bad good = bad (l .2)
-    awaits-says (Some r) l bad good = awaits-by bad good (r .holds) (r .number) l
+    awaits-says (Some r) l bad good = awaits-by bad good (r .kind) (r .number) l

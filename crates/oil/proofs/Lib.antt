@@ -1,6 +1,7 @@
 pub mod Tables
 pub mod Vectors
 pub mod Names
+pub mod Ties
 pub mod Runs
 pub mod Stands
 pub mod Judged
@@ -10,3 +11,4 @@ pub mod Whole
 pub mod Understands
 pub mod First
 pub mod Laws
+pub mod Walks

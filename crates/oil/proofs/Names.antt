@@ -82,3 +82,11 @@ find-set (x ∷ xs) (suc j) r k l b f ne =
     ∙ ap (λ y. cond (sameBytes (r .name) k) (Some r) y) (sym (cond-false (sameBytes (x .name) k) (Some x) (find xs k) m)))
     (cases-bool (sameBytes (x .name) k)))
     (cases-bool (sameBytes (x .name) (r .name)))
+
+-- the keys of two names are the same exactly if the names are
+pub key-tests : (n m : List ℕ) → Named n → Named m → sameBytes (key-for n) (key-for m) ≡ sameBytes n m
+key-tests n m h g =
+    ⊎-elim
+    (λ y. sameBytes-decides (key-for n) (key-for m) .1 (ap key-for (sameBytes-decides n m .0 y)) ∙ sym y)
+    (λ no. same-no (key-for n) (key-for m) (λ e. true≢false (sym (sameBytes-decides n m .1 (key-same n m h g e)) ∙ no)) ∙ sym no)
+    (cases-bool (sameBytes n m))

@@ -1,56 +1,72 @@
--- The table of names.
-use mathlib.Core.Path.{_≡_, refl, sym, ap, subst, _∙_}
-use mathlib.Core.Bool.{Bool, true, false, not, _&&_, cond}
+-- The table of names, and what an item leaves ready for the next.
+use mathlib.Core.Path.{_≡_, sym, subst, _∙_}
 use mathlib.Core.List.{List, [], _∷_}
-use Prim.Native.Nat.{ℕ, zero, suc, _+_, _-_, _*_, _^_, _≤_, _<_}
+use mathlib.Core.Logic.{_≢_, ⊎-elim}
+use Prim.Native.Nat.{ℕ, zero, suc, _+_, _^_, _≤_, _<_}
+use native.Mathlib.Nat.{le-refl}
 use native.Mathlib.Omega.{arith}
-use lib.ListN.{length, getD, set, replicate}
-use Rattle.std.proofs.shelf.Tests.{cond-true, cond-false, cond-both}
+use lib.Bits.{bitOr}
+use lib.Dec.{eqb, ltb}
+use lib.ListN.{length, getD, set, replicate, length-set}
+use lib.Seq.{getD-set-other}
+use Rattle.std.proofs.shelf.Tests.{cond-both, eqb-false, or-left, or-right, or-cases}
 use Rattle.std.specs.Options.{Cases}
+use Rattle.std.specs.Results as results
 use Rattle.std.specs.shelf.Text.{sameBytes}
 use Rattle.std.specs.declared.option.Option.{Option}
 use Rattle.std.specs.declared.option.Option.the-variants.{Some, None}
-use Rattle.oil.specs.declared.table.Holds.{Holds}
-use Rattle.oil.specs.declared.table.Holds.the-variants as holds
-use Rattle.oil.specs.declared.table.NameRecord.{NameRecord}
-use Rattle.oil.specs.declared.draft.Draft.{Draft}
-use Rattle.oil.specs.declared.fault.PlanCause.the-variants as cause
-use Rattle.oil.specs.Table.{find, blank}
-use Rattle.oil.specs.Draft.{Within, Drafted, Bounded, next-number, used, grown, with-resources, with-events, with-count, with-users, with-registered, prioritized, activated, finished, added, Sound-draft}
-use Rattle.plan.specs.Rows.{Inside, Empty-from}
-use Rattle.oil.specs.Judging.{All-ok, Record-ok, Number-ok, Ready, as-holds, key-of, new-record, unless-known, entered, referred-to, referred-by, judged, noted, proceed, Goes-on, Item-in}
-use Rattle.oil.specs.Faults.{refusal}
-use native.Mathlib.Nat.{le-refl}
-use mathlib.Core.Logic.{_≢_, ⊎-elim}
-use lib.Bits.{bitOr}
-use Rattle.std.proofs.shelf.Tests.{or-left, or-right, or-cases}
+use Rattle.std.specs.declared.result.Result.the-variants.{Ok, Err}
 use Rattle.vectors.specs.Vectors.{in-vector}
 use Rattle.vectors.proofs.Vectors.{in-or}
+use Rattle.plan.specs.Rows.{Inside, Empty-from}
 use Rattle.letters.specs.Tokens.{bytes-of}
-use Rattle.grammar.specs.Items.{item-at}
-use Rattle.grammar.proofs.Sits.{Item-sits, item-sits}
-use lib.Seq.{getD-set-other}
-use lib.ListN.{length-set}
-use Rattle.std.specs.declared.result.Result.{Result}
-use Rattle.std.specs.declared.result.Result.the-variants.{Ok, Err}
-use Rattle.std.specs.Results as results
-use Rattle.std.proofs.shelf.Tests.{eqb-true, eqb-false, ltb-false}
-use lib.Dec.{eqb, ltb}
-use Rattle.letters.specs.declared.token.Token.{Token}
 use Rattle.grammar.specs.declared.item.Kind.{Kind}
 use Rattle.grammar.specs.declared.item.Kind.the-variants as kind
 use Rattle.grammar.specs.declared.item.Item.{Item}
 use Rattle.grammar.specs.declared.item.Item.the-variants as item
 use Rattle.grammar.specs.declared.item.Step.{Step}
+use Rattle.grammar.proofs.Sits.{Item-sits}
+use Rattle.oil.specs.declared.table.Holds.{Holds}
+use Rattle.oil.specs.declared.table.Holds.the-variants as holds
+use Rattle.oil.specs.declared.table.NameRecord.{NameRecord}
+use Rattle.oil.specs.declared.table.Known.{Known}
+use Rattle.oil.specs.declared.draft.Draft.{Draft}
+use Rattle.oil.specs.declared.fault.PlanCause.the-variants as cause
+use Rattle.oil.specs.Faults.{refusal}
+use Rattle.oil.specs.Table.{keyed, no-key, find, blank, as-holds, meant, known-by, looked}
+use Rattle.oil.specs.Draft.{Within, Drafted, Bounded, Sound-draft, next-number, used, grown, with-resources, with-events, with-tasks, with-users, with-registered, prioritized, added}
+use Rattle.oil.specs.Judging.{unless-known, referred-to, referred-by, judged, proceed}
+use Rattle.oil.specs.Records.{All-ok, Record-ok, Number-ok, Ready, entered, noted, Goes-on, Item-in}
 
-pub find-ok : (d : Draft) (names : List NameRecord) (key : List ℕ) → All-ok d names → Cases (find names key) (Unit {0}) (λ r. Record-ok d r)
+-- the number of a known resource or event is one that is declared
+abbrev Kind-ok : Draft → Kind → ℕ → Type 0
+Kind-ok d kind.Resource n = n < d .resources
+Kind-ok d kind.Event n = n < d .events
+Kind-ok d kind.Task n = Unit {0}
+
+abbrev Known-ok : Draft → Option Known → Type 0
+Known-ok d o = Cases o (Unit {0}) (λ x. Kind-ok d (x .kind) (x .number))
+
+meant-ok : (d : Draft) (h : Holds) (n : ℕ) → Number-ok d h n → Known-ok d (meant h n)
+meant-ok d holds.Nothing n g = tt
+meant-ok d holds.Resource n g = g
+meant-ok d holds.Event n g = g
+meant-ok d holds.Task n g = tt
+
+find-ok : (d : Draft) (names : List NameRecord) (key : List ℕ) → All-ok d names → Known-ok d (known-by (find names key))
 find-ok d [] key h = tt
 find-ok d (r ∷ rs) key h =
-    cond-both (sameBytes (r .name) key) (Some r) (find rs key) (λ o. Cases o (Unit {0}) (λ x. Record-ok d x)) (λ _. h .0) (λ _. find-ok d rs key (h .1))
+    cond-both (sameBytes (r .name) key) (Some r) (find rs key) (λ o. Known-ok d (known-by o)) (λ _. meant-ok d (r .holds) (r .number) (h .0)) (λ _. find-ok d rs key (h .1))
 
 -- what is found has a number that is declared
-pub found-ok : (d : Draft) (names : List NameRecord) (key : List ℕ) (r : NameRecord) → All-ok d names → Some r ≡ find names key → Record-ok d r
-found-ok d names key r h e = subst (λ o. Cases o (Unit {0}) (λ x. Record-ok d x)) (sym e) (find-ok d names key h)
+found-ok : (d : Draft) (names : List NameRecord) (n : List ℕ) (x : Known) → All-ok d names → Some x ≡ looked names n → Kind-ok d (x .kind) (x .number)
+found-ok d names n x h e = subst (Known-ok d) (sym e) (find-ok d names (keyed 0 n no-key) h)
+
+pub resource-low : (d : Draft) (names : List NameRecord) (n : List ℕ) (x : Known) → All-ok d names → Some x ≡ looked names n → x .kind ≡ kind.Resource → x .number < d .resources
+resource-low d names n x h e is = subst (λ k. Kind-ok d k (x .number)) is (found-ok d names n x h e)
+
+pub event-low : (d : Draft) (names : List NameRecord) (n : List ℕ) (x : Known) → All-ok d names → Some x ≡ looked names n → x .kind ≡ kind.Event → x .number < d .events
+event-low d names n x h e is = subst (λ k. Kind-ok d k (x .number)) is (found-ok d names n x h e)
 
 number-more : (d e : Draft) (k : Holds) (n : ℕ) → d .resources ≤ e .resources → d .events ≤ e .events → Number-ok d k n → Number-ok e k n
 number-more d e holds.Nothing n r v g = tt
@@ -124,13 +140,13 @@ grown-ready d names kind.Event name place h =
     let b = h .bounded in
     more d (with-events d (d .events + 1)) names _ (record { few-tasks = b .few-tasks; few-resources = b .few-resources; few-events = omega arith }) (le-refl _) (omega arith) (omega arith) (let s = h .vectors in record { users-in = s .users-in; registered-in = s .registered-in; users-end = s .users-end; registered-end = λ i l. s .registered-end i (omega arith); current-in = s .current-in }) h)
 grown-ready d names kind.Task name place h =
-    cond-both (eqb (d .tasks) 64) (Err (refusal cause.TooMany place)) (Ok (with-count d (d .tasks + 1)))
+    cond-both (eqb (d .tasks) 64) (Err (refusal cause.TooMany place)) (Ok (with-tasks d (d .tasks + 1)))
     (Kept d names (record { name = name; holds = holds.Task; number = 0 })) (λ _. tt)
     (λ e. let ne = eqb-false (d .tasks) 64 e in
     let b = h .bounded in
-    more d (with-count d (d .tasks + 1)) names _ (record { few-tasks = omega arith; few-resources = b .few-resources; few-events = b .few-events }) (le-refl _) (le-refl _) tt (let s = h .vectors in record { users-in = s .users-in; registered-in = s .registered-in; users-end = s .users-end; registered-end = s .registered-end; current-in = s .current-in }) h)
+    more d (with-tasks d (d .tasks + 1)) names _ (record { few-tasks = omega arith; few-resources = b .few-resources; few-events = b .few-events }) (le-refl _) (le-refl _) tt (let s = h .vectors in record { users-in = s .users-in; registered-in = s .registered-in; users-end = s .users-end; registered-end = s .registered-end; current-in = s .current-in }) h)
 
-declared-ready : (d : Draft) (names : List NameRecord) (k : Kind) (name : List ℕ) (place : ℕ) (found : Option NameRecord) → Ready d names → Kept d names (record { name = name; holds = as-holds k; number = next-number d k }) (unless-known found place (grown d k place))
+declared-ready : (d : Draft) (names : List NameRecord) (k : Kind) (name : List ℕ) (place : ℕ) (found : Option Known) → Ready d names → Kept d names (record { name = name; holds = as-holds k; number = next-number d k }) (unless-known found place (grown d k place))
 declared-ready d names k name place None h = grown-ready d names k name place h
 declared-ready d names k name place (Some r) h = tt
 
@@ -152,9 +168,8 @@ prioritized-ready d names value place h =
       current-in = within-or-right (d .declared) (2 ^ value);
     }) h))
 
-referredTo-ready : (d : Draft) (names : List NameRecord) (k : Kind) (x : Holds) (n place : ℕ) → Number-ok d x n → Ready d names → Same names (referred-to d k x n place)
-referredTo-ready d names kind.Resource holds.Nothing n place g h = tt
-referredTo-ready d names kind.Resource holds.Resource n place g h =
+to-ready : (d : Draft) (names : List NameRecord) (k : Kind) (x : Kind) (n place : ℕ) → Kind-ok d x n → Ready d names → Same names (referred-to d k x n place)
+to-ready d names kind.Resource kind.Resource n place g h =
     let b = h .bounded in
     let s = h .vectors in
     like d (with-users d (added (d .users) n (d .current))) names (record { few-tasks = b .few-tasks; few-resources = b .few-resources; few-events = b .few-events }) (le-refl _) (le-refl _)
@@ -165,11 +180,10 @@ referredTo-ready d names kind.Resource holds.Resource n place g h =
       registered-end = s .registered-end;
       current-in = s .current-in;
     }) h
-referredTo-ready d names kind.Resource holds.Event n place g h = tt
-referredTo-ready d names kind.Resource holds.Task n place g h = tt
-referredTo-ready d names kind.Event holds.Nothing n place g h = tt
-referredTo-ready d names kind.Event holds.Resource n place g h = tt
-referredTo-ready d names kind.Event holds.Event n place g h =
+to-ready d names kind.Resource kind.Event n place g h = tt
+to-ready d names kind.Resource kind.Task n place g h = tt
+to-ready d names kind.Event kind.Resource n place g h = tt
+to-ready d names kind.Event kind.Event n place g h =
     let b = h .bounded in
     let s = h .vectors in
     like d (with-registered d (added (d .registered) n (d .current))) names (record { few-tasks = b .few-tasks; few-resources = b .few-resources; few-events = b .few-events }) (le-refl _) (le-refl _)
@@ -180,19 +194,19 @@ referredTo-ready d names kind.Event holds.Event n place g h =
       registered-end = added-end (d .registered) n (d .current) (d .events) g (s .registered-end);
       current-in = s .current-in;
     }) h
-referredTo-ready d names kind.Event holds.Task n place g h = tt
-referredTo-ready d names kind.Task x n place g h = tt
+to-ready d names kind.Event kind.Task n place g h = tt
+to-ready d names kind.Task x n place g h = tt
 
-referredBy-ready : (d : Draft) (names : List NameRecord) (k : Kind) (found : Option NameRecord) (place : ℕ) → Cases found (Unit {0}) (λ r. Record-ok d r) → Ready d names → Same names (referred-by d k found place)
-referredBy-ready d names k None place g h = tt
-referredBy-ready d names k (Some r) place g h = referredTo-ready d names k (r .holds) (r .number) place g h
+by-ready : (d : Draft) (names : List NameRecord) (k : Kind) (found : Option Known) (place : ℕ) → Known-ok d found → Ready d names → Same names (referred-by d k found place)
+by-ready d names k None place g h = tt
+by-ready d names k (Some x) place g h = to-ready d names k (x .kind) (x .number) place g h
 
 -- an item that is not refused leaves a draft and a table that are ready
-pub judged-ready : (text : List ℕ) (names : List NameRecord) (d : Draft) (i : Item) → Ready d names → Same (noted text names d i) (judged text names d i)
-judged-ready text names d (item.Declares k t) h = declared-ready d names k (key-of text t) (t .place) (find names (key-of text t)) h
+pub judged-ready : (text : List ℕ) (names : List NameRecord) (d : Draft) (i : Item) → Ready d names → Same (noted text names d i) (judged text (looked names) d i)
+judged-ready text names d (item.Declares k t) h = declared-ready d names k (keyed 0 (bytes-of text t) no-key) (t .place) (looked names (bytes-of text t)) h
 judged-ready text names d (item.Priority n t) h = prioritized-ready d names n (t .place) h
 judged-ready text names d (item.Activation n t) h = cond-both (eqb n 1) _ _ (Same names) (λ _. h) (λ _. tt)
-judged-ready text names d (item.Refers k t) h = referredBy-ready d names k (find names (key-of text t)) (t .place) (find-ok d names (key-of text t) (h .sound)) h
+judged-ready text names d (item.Refers k t) h = by-ready d names k (looked names (bytes-of text t)) (t .place) (find-ok d names (keyed 0 (bytes-of text t) no-key) (h .sound)) h
 judged-ready text names d item.Closes h = h
 judged-ready text names d item.End h = cond-both (eqb (d .declared) 0) _ _ (Same names) (λ _. tt) (λ _. h)
 
@@ -213,5 +227,5 @@ item-in text item.Closes pos end o = tt
 item-in text item.End pos end o = tt
 
 -- what `judge` leaves is ready
-pub judged-ok : (text : List ℕ) (names : List NameRecord) (d e : Draft) (i : Item) → Ready d names → Ok e ≡ judged text names d i → Ready e (noted text names d i)
+pub judged-ok : (text : List ℕ) (names : List NameRecord) (d e : Draft) (i : Item) → Ready d names → Ok e ≡ judged text (looked names) d i → Ready e (noted text names d i)
 judged-ok text names d e i h is = subst (Same (noted text names d i)) (sym is) (judged-ready text names d i h)

@@ -3,16 +3,19 @@ use mathlib.Core.Path.{_≡_, refl, sym, ap, subst, _∙_}
 use mathlib.Core.Bool.{Bool, true, false, _||_}
 use mathlib.Core.List.{List, [], _∷_, _++_}
 use mathlib.Core.Logic.{_⊎_, inl, inr, ⊎-elim}
-use Prim.Native.Nat.{ℕ, zero, suc, _^_, _<_}
+use Prim.Native.Nat.{ℕ, zero, suc, _*_, _/_, _%_, _^_, _<_}
+use native.Mathlib.Nat.{pow-suc}
 use native.Mathlib.Omega.{arith}
-use lib.Bits.{bitOr}
+use lib.Bits.{bitOr, or-lt}
 use lib.Dec.{eqb}
 use lib.ListN.{length}
+use lib.Pow.{pow-lt}
 use Rattle.std.proofs.shelf.Tests.{cases-bool, eqb-true, eqb-false, eq-eqb, or-cases, or-left, or-right, both-ways}
+use Rattle.std.proofs.shelf.Ways.{tells}
 use Rattle.vectors.specs.Vectors.{in-vector, with}
-use Rattle.vectors.proofs.Bits.{shifted-is}
+use Rattle.vectors.proofs.Bits.{bit, bit-half, bit-first, shifted-is}
 use Rattle.vectors.proofs.Vectors.{code-with, in-none}
-use Rattle.oil.specs.Meaning.{At, In, vector-from}
+use Rattle.oil.specs.Meaning.{At, In, Vector-of}
 
 module _ {X : Type 0} where
   pub at-old : (xs : List X) (y : X) (i : ℕ) (x : X) → At xs i x → At (xs ++ (y ∷ [])) i x
@@ -46,29 +49,22 @@ module _ {X : Type 0} where
   pub in-split : (xs : List X) (y x : X) → In (xs ++ (y ∷ [])) x → In xs x ⊎ (y ≡ x)
   in-split xs y x h = ⊎-elim (λ a. inl (h .0, a)) (λ b. inr (b .1)) (at-split xs y (h .0) x (h .1))
 
-pub vector-more : (v : ℕ) (ps : List ℕ) (p : ℕ) → vector-from v (ps ++ (p ∷ [])) ≡ bitOr (vector-from v ps) (2 ^ p)
-vector-more v [] p = refl
-vector-more v (q ∷ ps) p = vector-more (bitOr v (2 ^ q)) ps p
-
--- the vector holds exactly these tasks
-pub record Found (v : ℕ) (ps : List ℕ) : Type 0 where
-  pub there : (k : ℕ) → In ps k → in-vector v k ≡ true
-  pub only : (k : ℕ) → in-vector v k ≡ true → In ps k
-
-pub found-none : Found 0 []
-found-none = record { there = λ k h. absurd (h .1); only = λ k h. absurd (both-ways (in-vector 0 k) (in-none k) h) }
+pub vector-none : Vector-of [] 0
+vector-none = record { fits = omega arith; there = λ k h. absurd (h .1); only = λ k h. absurd (both-ways (in-vector 0 k) (in-none k) h) }
 
 pub cases-nat : (a b : ℕ) → (a ≡ b) ⊎ (a ≡ b → ⊥)
 cases-nat a b = ⊎-elim (λ y. inl (eqb-true a b y)) (λ n. inr (λ e. eqb-false a b n e)) (cases-bool (eqb a b))
 
--- A vector and one task more.
+-- a vector and one task more
 in-with : (v p : ℕ) → p < 64 → in-vector (bitOr v (2 ^ p)) ≡ with p (in-vector v)
 in-with v p low = ap (λ b. in-vector (bitOr v b)) (sym (shifted-is 64 p low)) ∙ code-with v p low
 
-pub found-more : (v : ℕ) (ps : List ℕ) (p : ℕ) → p < 64 → Found v ps → Found (bitOr v (2 ^ p)) (ps ++ (p ∷ []))
-found-more v ps p low f =
+-- one task more
+pub vector-more : (v : ℕ) (ps : List ℕ) (p : ℕ) → p < 64 → Vector-of ps v → Vector-of (ps ++ (p ∷ [])) (bitOr v (2 ^ p))
+vector-more v ps p low f =
     let is : (k : ℕ) → in-vector (bitOr v (2 ^ p)) k ≡ (eqb k p || in-vector v k) = λ k. ap (λ (m : ℕ → Bool). m k) (in-with v p low) in
     record {
+      fits = or-lt 64 v (2 ^ p) (f .fits) (pow-lt low);
       there = λ k i. is k ∙ ⊎-elim (λ old. or-right (eqb k p) (in-vector v k) (f .there k old)) (λ e. or-left (eqb k p) (in-vector v k) (eq-eqb k p (sym e))) (in-split ps p k i);
       only = λ k y. ⊎-elim
           (λ e. (length ps, subst (λ n. At (ps ++ (p ∷ [])) (length ps) n) (sym (eqb-true k p e)) (at-new ps p)))
@@ -76,8 +72,27 @@ found-more v ps p low f =
           (or-cases (eqb k p) (in-vector v k) (sym (is k) ∙ y));
     }
 
-pub taken-in : (v : ℕ) (ps : List ℕ) (k : ℕ) → Found v ps → in-vector v k ≡ true → In ps k
-taken-in v ps k f h = f .only k h
-
-pub taken-out : (v : ℕ) (ps : List ℕ) (k : ℕ) → Found v ps → in-vector v k ≡ false → In ps k → ⊥
+pub taken-out : (v : ℕ) (ps : List ℕ) (k : ℕ) → Vector-of ps v → in-vector v k ≡ false → In ps k → ⊥
 taken-out v ps k f h i = both-ways (in-vector v k) h (f .there k i)
+
+-- numbers with the same bits are the same
+same-bits : (w a b : ℕ) → a < 2 ^ w → b < 2 ^ w → ((k : ℕ) → k < w → bit a k ≡ bit b k) → a ≡ b
+same-bits zero a b h l e = omega arith
+same-bits (suc w) a b h l e =
+    let p = pow-suc 2 w in
+    let q : a / 2 ≡ b / 2 = same-bits w (a / 2) (b / 2) (omega arith) (omega arith) (λ k n. bit-half a k ∙ e (suc k) (omega arith) ∙ sym (bit-half b k)) in
+    omega (arith, bit-first a, bit-first b, e 0 (omega arith))
+
+bit-like : (a b k : ℕ) → k < 64 → (in-vector a k ≡ true → in-vector b k ≡ true) → (in-vector b k ≡ true → in-vector a k ≡ true) → bit a k ≡ bit b k
+bit-like a b k l f g =
+    ⊎-elim
+    (λ (y : in-vector a k ≡ true). let z = f y in grind (arith, tells))
+    (λ (n : in-vector a k ≡ false). ⊎-elim
+    (λ (y : in-vector b k ≡ true). absurd (both-ways (in-vector a k) n (g y)))
+    (λ (m : in-vector b k ≡ false). grind (arith, tells))
+    (cases-bool (in-vector b k)))
+    (cases-bool (in-vector a k))
+
+-- a vector is known by its tasks
+pub vector-same : (ps : List ℕ) (a b : ℕ) → Vector-of ps a → Vector-of ps b → a ≡ b
+vector-same ps a b f g = same-bits 64 a b (f .fits) (g .fits) (λ k l. bit-like a b k l (λ y. g .there k (f .only k y)) (λ y. f .there k (g .only k y)))

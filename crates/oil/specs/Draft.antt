@@ -17,6 +17,7 @@ use Rattle.oil.specs.declared.fault.PlanFault.{PlanFault}
 use Rattle.oil.specs.declared.draft.Draft.{Draft}
 use Rattle.oil.specs.Faults.{refusal}
 
+-- A draft, or a fault.
 abbrev pub Drafted : Type 0
 Drafted = Result Draft PlanFault
 
@@ -24,6 +25,7 @@ Drafted = Result Draft PlanFault
 abbrev pub Within : ℕ → ℕ → Type 0
 Within v w = (t : ℕ) → in-vector v t ≡ true → in-vector w t ≡ true
 
+-- A draft of nothing.
 abbrev pub empty-draft : Draft
 empty-draft = record {
   declared = 0;
@@ -35,9 +37,11 @@ empty-draft = record {
   current = 0;
 }
 
+-- The rows with these tasks added to row i.
 abbrev pub added : List ℕ → ℕ → ℕ → List ℕ
 added vectors i tasks = set vectors i (bitOr (getD vectors i 0) tasks)
 
+-- The draft with a task's number: at most 63, and not taken.
 abbrev pub prioritized : Draft → ℕ → ℕ → Drafted
 prioritized d value place =
     cond (ltb 63 value) (Err (refusal cause.WrongNumber place))
@@ -52,15 +56,17 @@ prioritized d value place =
       current = 2 ^ value;
     })))
 
+-- A task is activated once.
 abbrev pub activated : Draft → ℕ → ℕ → Drafted
 activated d value place = cond (eqb value 1) (Ok d) (Err (refusal cause.WrongNumber place))
 
+-- There are at most 64 tasks, 32 resources and 32 events.
 pub record Bounded (d : Draft) : Type 0 where
   pub few-tasks : d .tasks ≤ 64
   pub few-resources : d .resources ≤ 32
   pub few-events : d .events ≤ 32
 
--- the vectors lie in the declared tasks, and are empty beyond the counts
+-- The rows lie in the declared tasks, and are empty beyond the counts.
 pub record Sound-draft (d : Draft) : Type 0 where
   pub users-in : Inside (d .users) (d .declared)
   pub registered-in : Inside (d .registered) (d .declared)
@@ -68,6 +74,7 @@ pub record Sound-draft (d : Draft) : Type 0 where
   pub registered-end : Empty-from (d .registered) (d .events)
   pub current-in : Within (d .current) (d .declared)
 
+-- The draft with this many resources.
 abbrev pub with-resources : Draft → ℕ → Draft
 with-resources d n = record {
   declared = d .declared;
@@ -79,6 +86,7 @@ with-resources d n = record {
   current = d .current;
 }
 
+-- The draft with this many events.
 abbrev pub with-events : Draft → ℕ → Draft
 with-events d n = record {
   declared = d .declared;
@@ -90,8 +98,9 @@ with-events d n = record {
   current = d .current;
 }
 
-abbrev pub with-count : Draft → ℕ → Draft
-with-count d n = record {
+-- The draft with this many tasks.
+abbrev pub with-tasks : Draft → ℕ → Draft
+with-tasks d n = record {
   declared = d .declared;
   tasks = n;
   resources = d .resources;
@@ -101,6 +110,7 @@ with-count d n = record {
   current = d .current;
 }
 
+-- The draft with these users.
 abbrev pub with-users : Draft → List ℕ → Draft
 with-users d v = record {
   declared = d .declared;
@@ -112,6 +122,7 @@ with-users d v = record {
   current = d .current;
 }
 
+-- The draft with these registered tasks.
 abbrev pub with-registered : Draft → List ℕ → Draft
 with-registered d v = record {
   declared = d .declared;
@@ -123,12 +134,13 @@ with-registered d v = record {
   current = d .current;
 }
 
--- one object more, of 32 resources, 32 events and 64 tasks
+-- The draft with one object more, of at most 32 resources, 32 events and 64 tasks.
 abbrev pub grown : Draft → Kind → ℕ → Drafted
 grown d kind.Resource place = cond (eqb (d .resources) 32) (Err (refusal cause.TooMany place)) (Ok (with-resources d (d .resources + 1)))
 grown d kind.Event place = cond (eqb (d .events) 32) (Err (refusal cause.TooMany place)) (Ok (with-events d (d .events + 1)))
-grown d kind.Task place = cond (eqb (d .tasks) 64) (Err (refusal cause.TooMany place)) (Ok (with-count d (d .tasks + 1)))
+grown d kind.Task place = cond (eqb (d .tasks) 64) (Err (refusal cause.TooMany place)) (Ok (with-tasks d (d .tasks + 1)))
 
+-- The number of the next object of this kind.
 abbrev pub next-number : Draft → Kind → ℕ
 next-number d kind.Resource = d .resources
 next-number d kind.Event = d .events
@@ -138,11 +150,11 @@ next-number d kind.Task = 0
 abbrev pub used : Draft → ℕ
 used d = d .tasks + d .resources + d .events
 
--- a text is complete: it has a task
+-- A complete text has a task.
 abbrev pub finished : Draft → ℕ → Drafted
 finished d end = cond (eqb (d .declared) 0) (Err (refusal cause.NoTask end)) (Ok d)
 
--- the fields of a plan are those of the draft
+-- The fields of a plan are those of the draft.
 pub record Shows (d : Draft) (declared resources events : ℕ) (users registered : List ℕ) : Type 0 where
   pub same-declared : declared ≡ d .declared
   pub same-resources : resources ≡ d .resources

@@ -1,8 +1,11 @@
 -- The faults of a plan text: their numbers and layers.
+use mathlib.Core.List.{List}
 use Prim.Native.Nat.{ℕ}
+use lib.Chars.{codes}
 use Rattle.letters.specs.declared.fault.LettersCause.the-variants as letters
 use Rattle.grammar.specs.declared.fault.GrammarCause.the-variants as grammar
 use Rattle.grammar.specs.declared.fault.GrammarFault.{GrammarFault}
+use Rattle.grammar.specs.Faults as faults
 use Rattle.oil.specs.declared.fault.Layer.{Layer}
 use Rattle.oil.specs.declared.fault.Layer.the-variants as layer
 use Rattle.oil.specs.declared.fault.PlanCause.{PlanCause}
@@ -31,6 +34,16 @@ layer-of cause.WrongNumber = layer.Plan
 layer-of cause.TooMany = layer.Plan
 layer-of cause.NoTask = layer.Plan
 layer-of cause.SmallTable = layer.Plan
+
+-- What was wrong, in a few words.
+abbrev pub explanation : PlanCause → List ℕ
+explanation (cause.Grammar c) = faults.explanation c
+explanation cause.NotKnown = codes "no resource or event of this name is declared before"
+explanation cause.NameTaken = codes "this name is already declared"
+explanation cause.WrongNumber = codes "PRIORITY is over 63 or taken, or ACTIVATION is not 1"
+explanation cause.TooMany = codes "there are more than 64 tasks, 32 resources or 32 events"
+explanation cause.NoTask = codes "the text declares no task"
+explanation cause.SmallTable = codes "the name table has fewer than 128 records"
 
 -- A fault of the grammar as one of the plan: the same cause at the same place.
 abbrev pub raised-plan : GrammarFault → PlanFault

@@ -2,6 +2,9 @@ pub mod Faults
 pub mod Table
 pub mod Draft
 pub mod Judging
+pub mod Reading
+pub mod Records
 pub mod Outcome
 pub mod Meaning
 pub mod First
+pub mod Positions

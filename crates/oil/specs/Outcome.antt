@@ -14,16 +14,18 @@ use Rattle.oil.specs.declared.fault.PlanFault.{PlanFault}
 use Rattle.oil.specs.Faults.{refusal}
 use Rattle.oil.specs.Table.{blank}
 use Rattle.oil.specs.Draft.{Drafted, Shows}
-use Rattle.oil.specs.Judging.{read-all}
+use Rattle.oil.specs.Reading.{read-all}
 
 -- The draft of a text, or the first fault: a small table, a long text, and then the text from its start.
 abbrev pub drafted : List ℕ → ℕ → Drafted
-drafted text records = cond (ltb records 128) (Err (refusal cause.SmallTable 0)) (read-all text records)
+drafted text records = cond (ltb records 128) (Err (refusal cause.SmallTable 0)) (read-all text)
 
+-- Acceptance, or the fault.
 abbrev pub done : Drafted → Result (Unit {0}) PlanFault
 done (Ok d) = Ok tt
 done (Err f) = Err f
 
+-- What the reader answers.
 abbrev pub outcome : List ℕ → ℕ → Result (Unit {0}) PlanFault
 outcome text records = done (drafted text records)
 
@@ -31,6 +33,7 @@ outcome text records = done (drafted text records)
 abbrev pub table-after : List NameRecord → List NameRecord
 table-after names = cond (ltb (length names) 128) names (replicate (length names) blank)
 
+-- The plan after the reading, from the plan before it.
 abbrev pub Plan-from : Drafted → Plan → Plan → Type 0
 Plan-from (Ok d) old new = Shows d (new .declared) (new .resources) (new .events) (new .users) (new .registered)
 Plan-from (Err f) old new = new ≡ old

@@ -1,6 +1,6 @@
 // Why a plan text is refused.
 ghost use mathlib.Core.Path.{_≡_};
-ghost use Rattle.oil.specs.Faults.{raised-plan, refusal, number-of, layer-of};
+ghost use Rattle.oil.specs.Faults.{raised-plan, refusal, number-of, layer-of, explanation};
 use grammar::fault::GrammarCause;
 use grammar::fault::GrammarCauseDebug;
 use grammar::fault::GrammarCausePartialEq;
@@ -91,5 +91,20 @@ impl PlanFault {
         ensures { λ r. ⌜ r ≡ now (self .entry) .place ⌝ }
     {
         self.place
+    }
+
+    // What was wrong, in a few words.
+    pub fn explain(&self) -> &'static str
+        ensures { λ r. ⌜ now r ≡ explanation (now (self .entry) .cause) ⌝ }
+    {
+        match self.cause {
+            PlanCause::Grammar(cause) => cause.explain(),
+            PlanCause::NotKnown => "no resource or event of this name is declared before",
+            PlanCause::NameTaken => "this name is already declared",
+            PlanCause::WrongNumber => "PRIORITY is over 63 or taken, or ACTIVATION is not 1",
+            PlanCause::TooMany => "there are more than 64 tasks, 32 resources or 32 events",
+            PlanCause::NoTask => "the text declares no task",
+            PlanCause::SmallTable => "the name table has fewer than 128 records",
+        }
     }
 }

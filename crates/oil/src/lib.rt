@@ -3,5 +3,6 @@
 mod draft;
 pub mod fault;
 mod judge;
+pub mod position;
 pub mod reader;
 pub mod table;

@@ -4,12 +4,14 @@ ghost use Prim.Native.Nat.{_<_, _≤_};
 ghost use lib.ListN.{length, replicate};
 ghost use Rattle.std.specs.Results.{Cases};
 ghost use Rattle.grammar.specs.Items.{item-at};
-ghost use Rattle.oil.specs.Table.{blank};
+ghost use Rattle.oil.specs.Table.{blank, looked};
 ghost use Rattle.oil.specs.Draft.{Bounded, Sound-draft};
-ghost use Rattle.oil.specs.Judging.{Ready, proceed, advanced, noted-at, Goes-on, read-all};
+ghost use Rattle.oil.specs.Judging.{proceed, advanced};
+ghost use Rattle.oil.specs.Records.{Ready, noted-at, Goes-on, left-after};
+ghost use Rattle.oil.specs.Reading.{read-all};
 ghost use Rattle.oil.specs.Outcome.{outcome, table-after, Plan-after};
 ghost use Rattle.oil.specs.Meaning.{Understood};
-ghost use Rattle.oil.specs.First.{Right-free};
+ghost use Rattle.oil.specs.First.{Left-free, Right-free};
 use crate::draft::Draft;
 use crate::draft::empty;
 use crate::draft::plan_of;
@@ -53,7 +55,7 @@ fn advance(
     pos: usize,
 ) -> Result<Progress, PlanFault>
     requires { ⌜ Ready draft (now names) ⌝ }
-    ensures value { λ r. ⌜ r ≡ advanced (now (text .entry)) (now (names .entry)) draft state pos ⌝ }
+    ensures value { λ r. ⌜ r ≡ advanced (now (text .entry)) (looked (now (names .entry))) draft state pos ⌝ }
     ensures after { λ r. ⌜ now (names .exit) ≡ noted-at (now (text .entry)) (now (names .entry)) draft (item-at (now (text .entry)) state pos) ⌝ }
     ensures onward { λ r. ⌜ Cases r (λ p. Goes-on pos (length (now (text .entry))) (now (names .exit)) p) (λ _. Unit {0}) ⌝ }
 {
@@ -66,7 +68,8 @@ fn advance(
 fn gather(text: &[u8], names: &mut [NameRecord]) -> Result<Draft, PlanFault>
     requires blank { ⌜ now names ≡ replicate (length (now names)) blank ⌝ }
     requires room { ⌜ 128 ≤ length (now names) ⌝ }
-    ensures value { λ r. ⌜ r ≡ read-all (now (text .entry)) (length (now (names .entry))) ⌝ }
+    ensures value { λ r. ⌜ r ≡ read-all (now (text .entry)) ⌝ }
+    ensures after { λ _. ⌜ now (names .exit) ≡ left-after (now (text .entry)) (now (names .entry)) ⌝ }
     ensures sound { λ r. ⌜ Cases r (λ d. Bounded d × Sound-draft d) (λ _. Unit {0}) ⌝ }
 {
     let mut state = begin(text)?;
@@ -90,6 +93,7 @@ pub fn read(text: &[u8], names: &mut [NameRecord], plan: &mut Plan) -> Result<()
     ensures table { λ r. ⌜ now (names .exit) ≡ table-after (now (names .entry)) ⌝ }
     ensures plan { λ r. ⌜ Plan-after (now (text .entry)) (length (now (names .entry))) (now (plan .entry)) (now (plan .exit)) r ⌝ }
     ensures meaning { λ r. ⌜ Understood (now (text .entry)) (length (now (names .entry))) (now (plan .exit)) r ⌝ }
+    ensures nothing_left { λ r. ⌜ Left-free (now (text .entry)) (length (now (names .entry))) r ⌝ }
     ensures nothing_right { λ r. ⌜ Right-free (now (text .entry)) (length (now (names .entry))) r ⌝ }
 {
     if names.len() < 128 {

@@ -2,6 +2,8 @@
 #[cfg(test)]
 mod limits;
 #[cfg(test)]
+mod places;
+#[cfg(test)]
 mod texts;
 #[cfg(test)]
 mod verdicts;

@@ -2,7 +2,8 @@ use mathlib.Core.Path.{sym, subst}
 use lib.ListN.{length}
 use borrow.Author.Needs.{needs}
 use Rattle.grammar.proofs.Sits.{item-sits}
-use Rattle.oil.specs.Judging.{Goes-on, proceed, noted}
+use Rattle.oil.specs.Judging.{proceed}
+use Rattle.oil.specs.Records.{Goes-on, noted}
 use Rattle.oil.proofs.Tables.{goes-on, item-in, judged-ok}
 use Rattle.oil.proofs.reader.advance.Needs as need
 

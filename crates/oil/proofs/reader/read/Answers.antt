@@ -4,7 +4,7 @@ use Rattle.std.specs.declared.result.Result.the-variants.{Ok}
 use borrow.Author.Needs.{needs}
 use Rattle.oil.specs.Outcome.{outcome, Plan-after}
 use Rattle.oil.proofs.Understands.{understood-by}
-use Rattle.oil.proofs.Laws.{right-free}
+use Rattle.oil.proofs.Laws.{left-free, right-free}
 use Rattle.oil.proofs.reader.read.Needs as need
 
 pub returns-in-Break-draft : need.returns-in-Break-draft
@@ -19,6 +19,7 @@ returns-in-Break-draft c =
       table = search needs;
       plan = plan;
       meaning = understood-by text records old old (c .from-residual .result) value plan;
+      nothing-left = left-free text records (c .from-residual .result) value;
       nothing-right = right-free text records (c .from-residual .result) value;
     }
 
@@ -34,5 +35,6 @@ returns c =
       table = search needs;
       plan = plan;
       meaning = understood-by text records old (c .plan-of .result) (Ok tt) value plan;
+      nothing-left = left-free text records (Ok tt) value;
       nothing-right = right-free text records (Ok tt) value;
     }
