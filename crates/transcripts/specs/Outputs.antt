@@ -10,14 +10,14 @@ use Rattle.machine.specs.declared.Call.the-variants.{Install}
 use Rattle.machine.specs.Machine.{Machine, fresh, step}
 use Rattle.oil.specs.declared.fault.PlanFault.{PlanFault}
 use Rattle.oil.specs.Faults.{number-of}
-use Rattle.oil.specs.Meaning.{Means, Only-plan}
+use Rattle.oil.specs.Meaning.{Means, Same-plan}
 use Rattle.oil.specs.Outcome.{outcome}
 use Rattle.texts.specs.Lines.{header, fault-line}
 use Rattle.transcripts.specs.Lines.{lines-of}
 
 -- What a plan text comes to, with a name table of 128 records: the one plan that it means, or its first fault.
 abbrev pub Read-as : List ℕ → Result Plan PlanFault → Type 0
-Read-as text (Ok p) = (outcome text 128 ≡ Ok tt) × Means text (p .declared) (p .resources) (p .events) (p .users) (p .registered) × Only-plan text p
+Read-as text (Ok p) = (outcome text 128 ≡ Ok tt) × Means text p × ((q : Plan) → Means text q → Same-plan q p)
 Read-as text (Err f) = outcome text 128 ≡ Err f
 
 -- The machine of a new kernel over an empty waiting set of size 64, to which the plan was offered.
