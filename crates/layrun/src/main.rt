@@ -5,8 +5,10 @@ use std::io::ErrorKind;
 use std::io::Read;
 use std::io::Stdin;
 use std::io::Write;
+use transcripts::diagnosis::diagnose;
 use transcripts::input::Input;
 use transcripts::outputs::layrun;
+use transcripts::plans::read_plan;
 
 // The plan text. A file that cannot be read counts as an empty one; want of memory is an error.
 fn read_plan_text(rt: &LibcRuntime) -> io::Result<Vec<u8>> {
@@ -53,13 +55,18 @@ fn read_input(rt: &LibcRuntime) -> io::Result<Input> {
     Ok(input)
 }
 
-// Reads, runs and writes. Nothing is written before all of it is there.
+// Reads, runs and writes. Nothing is written before all of it is there. A refused plan is explained on standard error.
 fn run(rt: &LibcRuntime) -> io::Result<()> {
     let plan_text = read_plan_text(rt)?;
     let input = read_input(rt)?;
     let out = layrun(rt.alloc(), plan_text.as_slice(), input.as_slice())?;
     let mut stdout = rt.stdout();
-    stdout.write_all(out.as_slice())
+    stdout.write_all(out.as_slice())?;
+    if let Err(fault) = read_plan(plan_text.as_slice()) {
+        let line = diagnose(rt.alloc(), plan_text.as_slice(), &fault)?;
+        eprintln!(rt, "{line}")?;
+    }
+    Ok(())
 }
 
 fn main(rt: LibcRuntime) -> io::Result<()> {

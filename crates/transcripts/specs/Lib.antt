@@ -2,3 +2,4 @@ pub mod Reports
 pub mod Lines
 pub mod Outputs
 pub mod Inputs
+pub mod Diagnosis

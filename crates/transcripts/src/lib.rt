@@ -1,4 +1,5 @@
 // Whole runs as text: a kernel served with the records of an input, a line for each.
+pub mod diagnosis;
 pub mod input;
 pub mod outputs;
 pub mod plans;
