@@ -1,20 +1,17 @@
 -- A list taken apart into its first byte and the rest.
-use mathlib.Core.Path.{_≡_, refl, sym, ap, _∙_}
-use mathlib.Core.Bool.{Bool, true, false, not, _&&_, cond}
+use mathlib.Core.Path.{_≡_, refl, ap, _∙_}
+use mathlib.Core.Bool.{Bool, true, false}
 use mathlib.Core.List.{List, [], _∷_}
 use Prim.Native.Nat.{ℕ, zero, suc, min, _+_, _-_, _*_, _^_, _≤_, _<_}
 use native.Mathlib.Nat.{pow-suc, pow-le-pow-right}
 use native.Mathlib.Numerals.{add-one}
 use native.Mathlib.Omega.{arith}
 use lib.Dec.{eqb}
-use lib.ListN.{length, getD, take, drop}
+use lib.ListN.{length, take}
 use Rattle.std.proofs.shelf.Tests.{cond-true, cond-false, ne-eqb}
-use Rattle.std.specs.declared.option.Option.{Option}
-use Rattle.std.specs.declared.option.Option.the-variants.{Some, None}
 use Rattle.std.specs.shelf.Lists.{leading}
-use Rattle.letters.specs.Bytes.{is-blank, is-digit}
+use Rattle.letters.specs.Bytes.{is-digit}
 use Rattle.letters.specs.Tokens.{digits}
-use Rattle.letters.specs.Blanks.{begins, blanks}
 
 pub empty : {X : Type 0} → (xs : List X) → length xs ≡ 0 → xs ≡ []
 empty [] h = refl

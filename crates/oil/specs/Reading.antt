@@ -18,7 +18,6 @@ use Rattle.grammar.specs.declared.item.Step.{Step}
 use Rattle.grammar.specs.Faults.{and-then, misplaced}
 use Rattle.grammar.specs.Items.{item-at, begun}
 use Rattle.oil.specs.declared.table.Known.{Known}
-use Rattle.oil.specs.declared.fault.PlanFault.{PlanFault}
 use Rattle.oil.specs.declared.draft.Draft.{Draft}
 use Rattle.oil.specs.Faults.{raised-plan}
 use Rattle.oil.specs.Draft.{Drafted, empty-draft, next-number}

@@ -87,7 +87,13 @@ fn gather(text: &[u8], names: &mut [NameRecord]) -> Result<Draft, PlanFault>
     }
 }
 
-// Reads a text into a plan, with a table of at least 128 records for the names.
+// Reads a text into a plan, with a table of at least 128 records for the names. What it promises of every text:
+// value: the answer is what the definitions give, item by item from the left;
+// table: a table that is large enough is left empty, any other as it was;
+// plan: an accepted text gives its plan, and a refusal leaves the plan as it was;
+// meaning: a text is accepted exactly if its tokens spell a well-formed tree of objects, and the plan is the tree's;
+// nothing_left: cut just before its fault, a text is accepted or refused only for having ended;
+// nothing_right: every text that agrees through the byte after the faulty token has the same fault.
 pub fn read(text: &[u8], names: &mut [NameRecord], plan: &mut Plan) -> Result<(), PlanFault>
     ensures value { λ r. ⌜ r ≡ outcome (now (text .entry)) (length (now (names .entry))) ⌝ }
     ensures table { λ r. ⌜ now (names .exit) ≡ table-after (now (names .entry)) ⌝ }
