@@ -38,9 +38,6 @@ abbrev Goes : ℕ → List ℕ → Lexed → Type 0
 Goes place xs (Err f) = Unit {0}
 Goes place xs (Ok t) = (t .place ≡ place) × (place ≤ t .end) × (t .end ≤ place + length xs) × (is-end (t .what) ≡ false → place < t .end) × (is-name (t .what) ≡ true → Named (take (t .end - t .place) xs))
 
-zero-name : name-byte 0 ≡ false
-zero-name = refl
-
 full-leading : (xs : List ℕ) → Full (take (leading name-byte xs) xs)
 full-leading [] = tt
 full-leading (x ∷ xs) =
