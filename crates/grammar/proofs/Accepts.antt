@@ -1,20 +1,18 @@
 -- The grammar takes only texts that some objects have.
 use mathlib.Core.Path.{_≡_, refl, sym, ap, subst, _∙_}
-use mathlib.Core.Bool.{Bool, true, false, cond, _&&_}
+use mathlib.Core.Bool.{Bool, true, false, cond}
 use mathlib.Core.List.{List, [], _∷_, _++_}
-use mathlib.Core.Logic.{inl, inr, ⊎-elim}
+use mathlib.Core.Logic.{⊎-elim}
 use Prim.Native.Nat.{ℕ}
 use native.Mathlib.Omega.{arith}
 use lib.Chars.{codes}
 use Rattle.std.proofs.shelf.Tests.{false≢true, cases-bool, cond-true, cond-false}
 use Rattle.std.specs.declared.option.Option.{Option}
 use Rattle.std.specs.declared.option.Option.the-variants.{Some, None}
-use Rattle.std.specs.declared.result.Result.{Result}
 use Rattle.std.specs.declared.result.Result.the-variants.{Ok, Err}
 use Rattle.letters.specs.declared.token.What.{What}
 use Rattle.letters.specs.declared.token.What.the-variants as what
 use Rattle.letters.specs.declared.token.Token.{Token}
-use Rattle.grammar.specs.declared.fault.GrammarFault.{GrammarFault}
 use Rattle.grammar.specs.declared.slot.Slot.{Slot}
 use Rattle.grammar.specs.declared.slot.Slot.the-variants as slot
 use Rattle.grammar.specs.declared.word.Word.{Word}
@@ -28,11 +26,11 @@ use Rattle.grammar.specs.declared.item.Item.the-variants as item
 use Rattle.grammar.specs.declared.item.Step.{Step}
 use Rattle.letters.specs.declared.token.Mark.{Mark}
 use Rattle.letters.specs.declared.token.Mark.the-variants as marks
-use Rattle.letters.specs.Tokens.{Lexed, token-at, bytes-of, is-name, is-end}
-use Rattle.grammar.specs.Faults.{and-then, lifted, misplaced}
+use Rattle.letters.specs.Tokens.{token-at, bytes-of, is-name, is-end}
+use Rattle.grammar.specs.Faults.{and-then, misplaced}
 use Rattle.grammar.specs.Slots.{lexed, spelt, admits, expected, followed}
-use Rattle.grammar.specs.Items.{if-name, named, if-number, numeral-at, heading, template, Stepped, step, declared-at, object-at, referred-at, reference-at, attribute-at, judged-at, item-at}
-use Rattle.grammar.proofs.Through.{Fit, No-end, fit, through, lexed-ok, tested}
+use Rattle.grammar.specs.Items.{if-name, named, if-number, numeral-at, heading, template, step, declared-at, object-at, referred-at, reference-at, attribute-at, judged-at, item-at}
+use Rattle.grammar.proofs.Through.{fit, through, lexed-ok, tested}
 use Rattle.grammar.specs.Language.{Sign, word, num, str, mark, sign-by, sign-of, Scan, stop, reads, At-end, Spells, Reference, uses, awaits, Object, resource, event, task, reference, references, resource-rest, event-rest, activation-rest, priority-rest, task-rest, objects, unparse, Run, ends, goes}
 
 abbrev pub slot-sign : Slot → Sign

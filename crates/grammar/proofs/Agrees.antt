@@ -1,15 +1,12 @@
 -- An item is what it is by the bytes up to the one after it.
-use mathlib.Core.Path.{_≡_, refl, sym, ap, subst, _∙_}
-use mathlib.Core.Bool.{Bool, true, false, not, _&&_, cond}
-use mathlib.Core.List.{List, [], _∷_, _++_}
+use mathlib.Core.Path.{_≡_, refl, ap, subst, _∙_}
+use mathlib.Core.Bool.{Bool, true, false, _&&_, cond}
+use mathlib.Core.List.{List, [], _∷_}
 use mathlib.Core.Logic.{_⊎_, inl, inr, ⊎-elim}
-use Prim.Native.Nat.{ℕ, zero, suc, _+_, _-_, _*_, _≤_, _<_}
+use Prim.Native.Nat.{ℕ, _+_, _≤_}
 use native.Mathlib.Omega.{arith}
-use lib.Dec.{eqb, leb}
-use lib.ListN.{length, take, drop}
-use lib.Seq.{drop-drop}
-use Rattle.std.proofs.shelf.Tests.{cases-bool, cond-true, cond-false, cond-both}
-use Rattle.std.specs.shelf.Lists.{leading}
+use lib.ListN.{drop}
+use Rattle.std.proofs.shelf.Tests.{cond-both}
 use Rattle.std.specs.shelf.Text.{sameBytes}
 use Rattle.std.specs.declared.option.Option.{Option}
 use Rattle.std.specs.declared.option.Option.the-variants.{Some, None}
@@ -19,7 +16,6 @@ use Rattle.std.specs.Results.{Cases}
 use Rattle.letters.specs.declared.token.What.{What}
 use Rattle.letters.specs.declared.token.What.the-variants as what
 use Rattle.letters.specs.declared.token.Token.{Token}
-use Rattle.letters.specs.declared.fault.LettersFault.{LettersFault}
 use Rattle.grammar.specs.declared.fault.GrammarFault.{GrammarFault}
 use Rattle.grammar.specs.declared.slot.Slot.{Slot}
 use Rattle.grammar.specs.declared.slot.Slot.the-variants as slot
@@ -32,13 +28,12 @@ use Rattle.grammar.specs.declared.item.Item.the-variants as item
 use Rattle.grammar.specs.declared.item.Step.{Step}
 use Rattle.letters.specs.declared.token.Mark.{Mark}
 use Rattle.letters.specs.declared.token.Mark.the-variants as marks
-use Rattle.letters.specs.Bytes.{name-start, name-byte, is-digit, in-string}
 use Rattle.letters.specs.Blanks.{blanks}
-use Rattle.letters.specs.Tokens.{is-name, is-quoted, Lexed, token, unlawful, digits, number-at, name-at, string-at, head-token, token-at, bytes-of}
-use Rattle.grammar.specs.Faults.{and-then, raised, misplaced, lifted}
+use Rattle.letters.specs.Tokens.{is-name, is-quoted, Lexed, token-at}
+use Rattle.grammar.specs.Faults.{and-then, misplaced, lifted}
 use Rattle.grammar.specs.Slots.{spelt, lexed, admits, expected, followed}
 use Rattle.grammar.specs.Items.{if-name, named, if-number, numeral-at, heading, template, step, declared-at, object-at, referred-at, reference-at, attribute-at, judged-at, item-at}
-use Rattle.letters.specs.Extents.{extent, end-from, place-from}
+use Rattle.letters.specs.Extents.{end-from, place-from}
 use Rattle.letters.proofs.Near.{Near}
 use Rattle.letters.proofs.Local.{lex-near, bytes-near, Whole, lex-whole, Ends, ends-token}
 

@@ -1,12 +1,11 @@
 -- The grammar takes every text that some objects have.
 use mathlib.Core.Path.{_≡_, refl, sym, ap, subst, _∙_}
-use mathlib.Core.Bool.{Bool, true, false, cond, _&&_}
+use mathlib.Core.Bool.{true, false, cond, _&&_}
 use mathlib.Core.List.{List, [], _∷_, _++_}
 use Prim.Native.Nat.{ℕ}
 use native.Mathlib.Omega.{arith}
 use lib.Chars.{codes}
-use lib.Dec.{eqb}
-use Rattle.std.proofs.shelf.Tests.{false≢true, true≢false, eq-eqb, cond-true, cond-false}
+use Rattle.std.proofs.shelf.Tests.{true≢false, cond-true, cond-false}
 use Rattle.std.proofs.shelf.Equals.{sameBytes-decides}
 use Rattle.std.specs.shelf.Text.{sameBytes}
 use Rattle.std.specs.declared.option.Option.{Option}
@@ -25,18 +24,17 @@ use Rattle.grammar.specs.declared.item.Kind.{Kind}
 use Rattle.grammar.specs.declared.item.Kind.the-variants as kind
 use Rattle.grammar.specs.declared.item.State.{State}
 use Rattle.grammar.specs.declared.item.State.the-variants as state
-use Rattle.grammar.specs.declared.item.Item.{Item}
 use Rattle.grammar.specs.declared.item.Item.the-variants as item
 use Rattle.grammar.specs.declared.item.Step.{Step}
 use Rattle.letters.specs.declared.token.Mark.{Mark}
 use Rattle.letters.specs.declared.token.Mark.the-variants as marks
-use Rattle.letters.specs.Tokens.{same-mark, Lexed, token-at, bytes-of, is-name, is-quoted, is-mark, is-end}
+use Rattle.letters.specs.Tokens.{same-mark, token-at, bytes-of, is-name, is-quoted, is-mark, is-end}
 use Rattle.grammar.specs.Faults.{and-then, lifted, misplaced}
 use Rattle.grammar.specs.Slots.{lexed, spelt, admits, expected, followed}
 use Rattle.grammar.specs.Items.{if-name, named, if-number, numeral-at, heading, template, step, declared-at, object-at, referred-at, reference-at, attribute-at, judged-at, item-at}
 use Rattle.grammar.proofs.Through.{through, lexed-ok}
 use Rattle.letters.proofs.Named.{Named, lex-goes}
-use Rattle.grammar.specs.Language.{Sign, word, num, str, mark, sign-by, sign-of, Scan, stop, reads, At-end, Reference, uses, awaits, Object, resource, event, task, reference, references, resource-rest, event-rest, activation-rest, priority-rest, task-rest, objects, unparse, Run, ends, goes}
+use Rattle.grammar.specs.Language.{Sign, word, num, str, mark, sign-by, sign-of, Scan, stop, reads, At-end}
 use Prim.Native.Nat.{_<_, _≤_}
 use lib.ListN.{length}
 use Rattle.grammar.proofs.Accepts.{slot-sign, Fixed, All-fixed, signs-then}

@@ -1,28 +1,19 @@
 -- How an item stands in its text.
 use mathlib.Core.Path.{_≡_, refl, sym, ap, subst, _∙_}
-use mathlib.Core.Bool.{Bool, true, false, not, _&&_, cond}
-use mathlib.Core.List.{List, [], _∷_, _++_}
-use Prim.Native.Nat.{ℕ, zero, suc, _+_, _-_, _*_, _≤_, _<_}
+use mathlib.Core.Bool.{true, false, cond}
+use mathlib.Core.List.{List, [], _∷_}
+use Prim.Native.Nat.{ℕ, zero, suc, _≤_, _<_}
 use native.Mathlib.Omega.{arith}
-use lib.Dec.{eqb, leb}
-use lib.ListN.{length, take, drop}
-use lib.Seq.{drop-drop}
-use Rattle.std.proofs.shelf.Tests.{cases-bool, cond-true, cond-false, cond-both}
-use Rattle.std.specs.shelf.Lists.{leading}
-use Rattle.std.specs.shelf.Text.{sameBytes}
+use lib.ListN.{length}
+use Rattle.std.proofs.shelf.Tests.{cases-bool, cond-true, cond-false}
 use Rattle.std.specs.declared.option.Option.{Option}
 use Rattle.std.specs.declared.option.Option.the-variants.{Some, None}
-use Rattle.std.specs.declared.result.Result.{Result}
-use Rattle.std.specs.declared.result.Result.the-variants.{Ok, Err}
-use Rattle.std.specs.Results.{Cases}
+use Rattle.std.specs.declared.result.Result.the-variants.{Ok}
 use Rattle.letters.specs.declared.token.What.{What}
 use Rattle.letters.specs.declared.token.What.the-variants as what
 use Rattle.letters.specs.declared.token.Token.{Token}
-use Rattle.letters.specs.declared.fault.LettersFault.{LettersFault}
-use Rattle.grammar.specs.declared.fault.GrammarFault.{GrammarFault}
 use Rattle.grammar.specs.declared.slot.Slot.{Slot}
 use Rattle.grammar.specs.declared.slot.Slot.the-variants as slot
-use Rattle.grammar.specs.declared.word.Word.the-variants as words
 use Rattle.grammar.specs.declared.item.Kind.{Kind}
 use Rattle.grammar.specs.declared.item.Kind.the-variants as kind
 use Rattle.grammar.specs.declared.item.State.{State}
@@ -31,19 +22,17 @@ use Rattle.grammar.specs.declared.item.Item.the-variants as item
 use Rattle.grammar.specs.declared.item.Step.{Step}
 use Rattle.letters.specs.declared.token.Mark.{Mark}
 use Rattle.letters.specs.declared.token.Mark.the-variants as marks
-use Rattle.letters.specs.Bytes.{name-start, name-byte, is-digit, in-string}
-use Rattle.letters.specs.Blanks.{blanks}
-use Rattle.letters.specs.Tokens.{is-mark, Lexed, token, unlawful, digits, number-at, name-at, string-at, head-token, token-at, bytes-of, is-name, is-end}
-use Rattle.grammar.specs.Faults.{and-then, raised, misplaced, lifted}
+use Rattle.letters.specs.Tokens.{is-mark, token-at, bytes-of, is-name, is-end}
+use Rattle.grammar.specs.Faults.{and-then}
 use Rattle.grammar.specs.Slots.{lexed, admits, expected, followed}
 use Rattle.grammar.specs.Items.{if-name, named, if-number, numeral-at, heading, template, step, declared-at, object-at, referred-at, reference-at, attribute-at, judged-at, item-at}
-use Rattle.letters.specs.Extents.{extent, end-from, place-from}
+use Rattle.letters.specs.Extents.{end-from}
 use Rattle.grammar.proofs.Through.{through, lexed-ok}
 use Rattle.letters.proofs.Named.{Named, lex-goes}
-use Rattle.letters.proofs.Near.{Near, near-cut}
-use Rattle.letters.proofs.Local.{Whole, lex-whole, near-same}
+use Rattle.letters.proofs.Near.{Near}
+use Rattle.letters.proofs.Local.{lex-whole}
 use Rattle.grammar.proofs.Agrees.{here, Agrees, followed-agrees}
-use mathlib.Core.Logic.{_⊎_, inl, inr, ⊎-elim}
+use mathlib.Core.Logic.{⊎-elim}
 use Rattle.std.proofs.shelf.Tests.{false≢true}
 use Rattle.grammar.specs.declared.item.Item.{Item}
 

@@ -1,12 +1,10 @@
 -- Slots and the tokens that stand at them.
-use mathlib.Core.Path.{_≡_, refl, sym, ap, subst, _∙_}
+use mathlib.Core.Path.{_≡_, refl, sym, ap}
 use mathlib.Core.Bool.{Bool, true, false, cond, _&&_}
-use mathlib.Core.List.{List, [], _∷_, _++_}
-use mathlib.Core.Logic.{inl, inr}
+use mathlib.Core.List.{List, [], _∷_}
 use Prim.Native.Nat.{ℕ}
 use native.Mathlib.Omega.{arith}
-use lib.Dec.{eqb}
-use Rattle.std.proofs.shelf.Tests.{false≢true, and-parts, cases-bool, cond-true, cond-false}
+use Rattle.std.proofs.shelf.Tests.{false≢true}
 use Rattle.std.proofs.shelf.Equals.{sameBytes-decides}
 use Rattle.std.specs.shelf.Text.{sameBytes}
 use Rattle.std.specs.declared.result.Result.{Result}
@@ -16,15 +14,13 @@ use Rattle.letters.specs.declared.token.Mark.the-variants as marks
 use Rattle.letters.specs.declared.token.What.{What}
 use Rattle.letters.specs.declared.token.What.the-variants as what
 use Rattle.letters.specs.declared.token.Token.{Token}
-use Rattle.letters.specs.declared.fault.LettersFault.{LettersFault}
-use Rattle.grammar.specs.declared.fault.GrammarFault.{GrammarFault}
 use Rattle.grammar.specs.declared.slot.Slot.{Slot}
 use Rattle.grammar.specs.declared.slot.Slot.the-variants as slot
 use Rattle.grammar.specs.declared.word.Word.{Word}
-use Rattle.letters.specs.Tokens.{same-mark, Lexed, token-at, bytes-of, is-name, is-quoted, is-mark, is-end}
-use Rattle.grammar.specs.Faults.{and-then, lifted, misplaced}
-use Rattle.grammar.specs.Slots.{lexed, spelt, admits, expected, followed}
-use Rattle.grammar.specs.Language.{Sign, word, num, str, mark, sign-by, sign-of, Scan, stop, reads, At-end}
+use Rattle.letters.specs.Tokens.{same-mark, Lexed, bytes-of, is-name, is-quoted, is-mark, is-end}
+use Rattle.grammar.specs.Faults.{and-then, lifted}
+use Rattle.grammar.specs.Slots.{spelt, admits}
+use Rattle.grammar.specs.Language.{Sign, word, str, mark, sign-by, sign-of}
 
 -- a sign that may stand at the slot
 abbrev pub Fit : Slot → Sign → Type 0

@@ -4,7 +4,7 @@ use mathlib.Core.Bool.{true, false}
 use mathlib.Core.List.{List, [], _∷_}
 use Prim.Native.Nat.{ℕ}
 use lib.Chars.{codes}
-use Rattle.std.specs.declared.result.Result.the-variants.{Ok, Err}
+use Rattle.std.specs.declared.result.Result.the-variants.{Ok}
 use Rattle.letters.specs.declared.token.Mark.{Mark}
 use Rattle.letters.specs.declared.token.Mark.the-variants as marks
 use Rattle.letters.specs.declared.token.What.{What}

@@ -25,6 +25,7 @@ impl GrammarCause {
     }
 }
 
+// A cause, and the byte of the text where it was found.
 #[derive(Clone, Copy, PartialEq, Debug)]
 pub struct GrammarFault {
     pub cause: GrammarCause,

@@ -1,20 +1,16 @@
 -- A list taken apart into its first byte and the rest.
-use mathlib.Core.Path.{_≡_, refl, sym, ap, _∙_}
-use mathlib.Core.Bool.{Bool, true, false, not, _&&_, cond}
+use mathlib.Core.Path.{_≡_, refl, ap, _∙_}
+use mathlib.Core.Bool.{true}
 use mathlib.Core.List.{List, [], _∷_}
 use Prim.Native.Nat.{ℕ, zero, suc, min, _+_, _-_, _*_, _^_, _≤_, _<_}
 use native.Mathlib.Nat.{pow-suc, pow-le-pow-right}
 use native.Mathlib.Numerals.{add-one}
 use native.Mathlib.Omega.{arith}
 use lib.Dec.{eqb}
-use lib.ListN.{length, getD, take, drop}
+use lib.ListN.{length, take}
 use Rattle.std.proofs.shelf.Tests.{cond-true, cond-false, ne-eqb}
-use Rattle.std.specs.declared.option.Option.{Option}
-use Rattle.std.specs.declared.option.Option.the-variants.{Some, None}
-use Rattle.std.specs.shelf.Lists.{leading}
-use Rattle.letters.specs.Bytes.{is-blank, is-digit}
+use Rattle.letters.specs.Bytes.{is-digit}
 use Rattle.letters.specs.Tokens.{digits}
-use Rattle.letters.specs.Blanks.{begins, blanks}
 
 pub empty : {X : Type 0} → (xs : List X) → length xs ≡ 0 → xs ≡ []
 empty [] h = refl
@@ -23,12 +19,6 @@ empty (x ∷ xs) h = absurd (omega arith)
 module _ {xs : List ℕ} {b : ℕ} {bs : List ℕ} (is : xs ≡ b ∷ bs) where
   pub length-cut : length xs ≡ 1 + length bs
   length-cut = let e = ap length is in omega arith
-
-  pub leading-yes : (p : ℕ → Bool) → p b ≡ true → leading p xs ≡ 1 + leading p bs
-  leading-yes p y = ap (leading p) is ∙ cond-true (p b) (1 + leading p bs) 0 y
-
-  pub leading-no : (p : ℕ → Bool) → p b ≡ false → leading p xs ≡ 0
-  leading-no p y = ap (leading p) is ∙ cond-false (p b) (1 + leading p bs) 0 y
 
   pub digits-more : (count value : ℕ) → is-digit b ≡ true → (count ≡ 9 → ⊥) → digits count value xs ≡ digits (count + 1) (value * 10 + (b - 48)) bs
   digits-more count value y n = ap (digits count value) is ∙ cond-true (is-digit b) _ _ y ∙ cond-false (eqb count 9) _ _ (ne-eqb count 9 n)

@@ -1,6 +1,6 @@
 -- How far a token goes, and what the bytes of a name are.
 use mathlib.Core.Path.{_≡_, refl, sym, ap, subst, _∙_}
-use mathlib.Core.Bool.{Bool, true, false, cond}
+use mathlib.Core.Bool.{Bool, true, false}
 use mathlib.Core.List.{List, [], _∷_}
 use mathlib.Core.Logic.{⊎-elim}
 use Prim.Native.Nat.{ℕ, zero, suc, _+_, _-_, _*_, _≤_, _<_}
@@ -37,9 +37,6 @@ pub record Named (n : List ℕ) : Type 0 where
 abbrev Goes : ℕ → List ℕ → Lexed → Type 0
 Goes place xs (Err f) = Unit {0}
 Goes place xs (Ok t) = (t .place ≡ place) × (place ≤ t .end) × (t .end ≤ place + length xs) × (is-end (t .what) ≡ false → place < t .end) × (is-name (t .what) ≡ true → Named (take (t .end - t .place) xs))
-
-zero-name : name-byte 0 ≡ false
-zero-name = refl
 
 full-leading : (xs : List ℕ) → Full (take (leading name-byte xs) xs)
 full-leading [] = tt

@@ -1,22 +1,21 @@
 -- A token is what it is by the bytes up to the one after it.
 use mathlib.Core.Path.{_≡_, refl, sym, ap, subst, _∙_}
-use mathlib.Core.Bool.{Bool, true, false, not, _&&_, cond}
-use mathlib.Core.List.{List, [], _∷_, _++_}
-use mathlib.Core.Logic.{_⊎_, inl, inr, ⊎-elim}
+use mathlib.Core.Bool.{Bool, true, false, _&&_, cond}
+use mathlib.Core.List.{List, [], _∷_}
+use mathlib.Core.Logic.{⊎-elim}
 use Prim.Native.Nat.{ℕ, zero, suc, _+_, _-_, _*_, _≤_, _<_}
 use native.Mathlib.Omega.{arith}
 use lib.Dec.{eqb, leb}
 use lib.ListN.{length, take, drop}
 use Rattle.std.proofs.shelf.Lists.{drop-take}
-use Rattle.std.proofs.shelf.Tests.{cases-bool, cond-true, cond-false, eqb-true, eqb-false, true≢false, false≢true, and-from, and-left, and-right, and-cases}
+use Rattle.std.proofs.shelf.Tests.{cases-bool, cond-true, cond-false, true≢false, false≢true, and-left, and-right, and-cases}
 use Rattle.std.specs.shelf.Lists.{leading}
 use Rattle.std.specs.declared.option.Option.{Option}
 use Rattle.std.specs.declared.option.Option.the-variants.{Some, None}
-use Rattle.std.specs.declared.result.Result.the-variants.{Ok, Err}
 use Rattle.letters.specs.declared.token.What.the-variants as what
 use Rattle.letters.specs.Bytes.{name-start, name-byte, is-digit, is-blank, in-string}
 use Rattle.letters.specs.Blanks.{begins, skip, counted, blanks}
-use Rattle.letters.specs.Tokens.{Lexed, token, unlawful, digits, number-at, name-at, string-at, head-token, token-at}
+use Rattle.letters.specs.Tokens.{token, unlawful, digits, number-at, name-at, string-at, head-token, token-at}
 use Rattle.letters.specs.Extents.{extent, place-from}
 
 -- the texts have the same first e bytes, and the other ends there or goes on with the same byte

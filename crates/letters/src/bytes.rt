@@ -4,18 +4,21 @@ ghost use Rattle.letters.specs.Bytes.{name-start, name-byte, is-blank, in-stri
 ghost use Rattle.letters.specs.Tokens.{mark-of as mark-at};
 use crate::token::Mark;
 
+// May a name begin with this byte?
 pub fn starts_name(b: u8) -> bool
     ensures { λ r. ⌜ r ≡ name-start b ⌝ }
 {
     b.is_ascii_alphabetic() || b == b'_'
 }
 
+// May the byte stand in a name after the first?
 pub fn goes_on_name(b: u8) -> bool
     ensures { λ r. ⌜ r ≡ name-byte b ⌝ }
 {
     starts_name(b) || b.is_ascii_digit()
 }
 
+// Space, tab, carriage return and line feed.
 pub fn is_blank(b: u8) -> bool
     ensures { λ r. ⌜ r ≡ is-blank b ⌝ }
 {

@@ -22,6 +22,7 @@ impl LettersCause {
     }
 }
 
+// A cause, and the byte of the text where it was found.
 #[derive(Clone, Copy, PartialEq, Debug)]
 pub struct LettersFault {
     pub cause: LettersCause,

@@ -1,6 +1,6 @@
 -- Where a text has a fault, what another text has that agrees with it up to some byte.
 use mathlib.Core.Path.{_≡_, refl, sym, ap, subst, _∙_}
-use mathlib.Core.List.{List, [], _∷_}
+use mathlib.Core.List.{List}
 use Prim.Native.Nat.{ℕ, zero, suc, _+_, _-_, _≤_, _<_}
 use native.Mathlib.Omega.{arith}
 use lib.Dec.{eqb, ltb}
@@ -31,7 +31,7 @@ use Rattle.oil.specs.declared.draft.Draft.{Draft}
 use Rattle.oil.specs.declared.fault.PlanCause.the-variants as cause
 use Rattle.oil.specs.declared.fault.PlanFault.{PlanFault}
 use Rattle.oil.specs.Faults.{raised-plan, refusal}
-use Rattle.oil.specs.Draft.{Drafted, prioritized, activated, grown, finished}
+use Rattle.oil.specs.Draft.{Drafted, grown}
 use Rattle.oil.specs.Judging.{unless-known, introduced, referred-to, referred-by, judged, proceed, resume}
 use Rattle.oil.specs.Reading.{Entry, look-up, learnt, names-after, gathered}
 use Rattle.oil.proofs.Judged.{onward, gathered-item, gathered-fault}

@@ -1,12 +1,12 @@
 -- A tree is well formed exactly if each of its objects is allowed after those before it.
 use mathlib.Core.Path.{_≡_, refl, sym, ap, subst, _∙_}
 use mathlib.Core.List.{List, [], _∷_, _++_, append-nil, append-assoc}
-use mathlib.Core.Logic.{_⊎_, inl, inr, ⊎-elim}
-use Prim.Native.Nat.{ℕ, zero, suc, _+_, _≤_, _<_}
+use mathlib.Core.Logic.{⊎-elim}
+use Prim.Native.Nat.{ℕ, zero, suc, _≤_, _<_}
 use native.Mathlib.Omega.{arith}
 use lib.ListN.{length, length-append}
 use Rattle.grammar.specs.Language.{Reference, Object, resource, event, task}
-use Rattle.oil.specs.Meaning.{At, In, Distinct, name-of, names-of, resources-of, events-of, priorities-of, activations-of, Earlier-in, Grounded, Well-formed}
+use Rattle.oil.specs.Meaning.{At, In, Distinct, names-of, resources-of, events-of, priorities-of, activations-of, Grounded, Well-formed}
 use Rattle.oil.proofs.Vectors.{at-split, at-low, in-split}
 use Rattle.oil.proofs.Judged.{names-app, resources-app, events-app, priorities-app, Allowed, Allowed-from, joined}
 

@@ -10,5 +10,6 @@ pub mod Forms
 pub mod Whole
 pub mod Understands
 pub mod First
+pub mod Bounds
 pub mod Laws
 pub mod Walks

@@ -31,11 +31,9 @@ use Rattle.grammar.proofs.Sits.{Item-sits, item-sits}
 use Rattle.oil.specs.declared.table.NameRecord.{NameRecord}
 use Rattle.oil.specs.declared.table.Known.{Known}
 use Rattle.oil.specs.declared.draft.Draft.{Draft}
-use Rattle.oil.specs.declared.fault.PlanFault.{PlanFault}
-use Rattle.oil.specs.declared.reader.Progress.{Progress}
 use Rattle.oil.specs.Table.{blank, find, as-holds, meant, known-by, looked, no-key}
 use Rattle.oil.specs.Draft.{Drafted, Bounded, used, next-number, grown, prioritized, activated}
-use Rattle.oil.specs.Judging.{unless-known, introduced, referred-to, referred-by, judged, lift-plan, proceed, advanced}
+use Rattle.oil.specs.Judging.{unless-known, referred-to, referred-by, judged, lift-plan, proceed, advanced}
 use Rattle.oil.specs.Reading.{Entry, look-up, learnt, names-after}
 use Rattle.oil.specs.Records.{entered, new-record, noted, Ready}
 use Rattle.oil.proofs.Names.{key-for, key-some, key-tests, find-set, same-no}

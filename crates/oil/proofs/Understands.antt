@@ -27,7 +27,7 @@ use Rattle.oil.specs.declared.draft.Draft.{Draft}
 use Rattle.oil.specs.declared.fault.PlanFault.{PlanFault}
 use Rattle.oil.specs.Draft.{Drafted, empty-draft}
 use Rattle.oil.specs.Outcome.{drafted, done, outcome, Plan-from, Plan-after}
-use Rattle.oil.specs.Meaning.{At, Vector-of, Rows-of, Plan-of, Means, Same-plan, Understood}
+use Rattle.oil.specs.Meaning.{At, Vector-of, Rows-of, Plan-of, Same-plan, Understood}
 use Rattle.oil.proofs.Vectors.{vector-none, vector-same}
 use Rattle.oil.proofs.Judged.{Tree}
 use Rattle.oil.proofs.Readings.{Plans, Good, Bad, objects-says}

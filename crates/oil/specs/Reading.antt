@@ -1,7 +1,8 @@
 -- A whole text: its items judged one after another, with the names that were declared so far.
+use mathlib.Core.Path.{_≡_}
 use mathlib.Core.Bool.{cond}
 use mathlib.Core.List.{List, [], _∷_}
-use Prim.Native.Nat.{ℕ, zero, suc}
+use Prim.Native.Nat.{ℕ, zero, suc, _<_}
 use lib.ListN.{length}
 use Rattle.std.specs.shelf.Text.{sameBytes}
 use Rattle.std.specs.declared.option.Option.{Option}
@@ -18,7 +19,6 @@ use Rattle.grammar.specs.declared.item.Step.{Step}
 use Rattle.grammar.specs.Faults.{and-then, misplaced}
 use Rattle.grammar.specs.Items.{item-at, begun}
 use Rattle.oil.specs.declared.table.Known.{Known}
-use Rattle.oil.specs.declared.fault.PlanFault.{PlanFault}
 use Rattle.oil.specs.declared.draft.Draft.{Draft}
 use Rattle.oil.specs.Faults.{raised-plan}
 use Rattle.oil.specs.Draft.{Drafted, empty-draft, next-number}
@@ -54,11 +54,15 @@ abbrev pub names-at : List ℕ → List Entry → Draft → Result Step GrammarF
 names-at text es d (Ok st) = names-after text es d (st .item)
 names-at text es d (Err f) = es
 
--- The items of a text, judged from the left. Each has a byte at least, so that n, which begins above the text's length, is never used up; a text with no byte left has ended.
+-- The items of a text, judged from the left, at most n of them. Each has a byte at least, so that a bound above the text's length is never reached; a text with no byte left has ended.
 unfoldable pub gathered : ℕ → List ℕ → List Entry → Draft → State → ℕ → Drafted
 gathered zero text es d s pos = Err (raised-plan (misplaced (length text)))
 gathered (suc n) text es d s pos =
     and-then (advanced text (look-up es) d s pos) (λ p. resume p (λ e. Ok e) (λ e t q. gathered n text (names-at text es d (item-at text s pos)) e t q))
+
+-- Every bound above the text's length gives the same.
+abbrev pub Bound-free : List ℕ → Type 0
+Bound-free text = (n : ℕ) (es : List Entry) (d : Draft) (s : State) → length text < n → gathered n text es d s 0 ≡ gathered (suc (length text)) text es d s 0
 
 -- A whole text: it is measured, and then read from its start with no name declared.
 abbrev pub read-all : List ℕ → Drafted

@@ -2,7 +2,6 @@
 ghost use mathlib.Core.Path.{_≡_};
 ghost use Prim.Native.Nat.{_≤_};
 ghost use lib.ListN.{length};
-ghost use Rattle.letters.specs.Tokens.{bytes-of};
 ghost use Rattle.oil.specs.Table.{looked};
 ghost use Rattle.oil.specs.Draft.{Bounded};
 ghost use Rattle.oil.specs.Judging.{introduced, referred, judged};
@@ -23,7 +22,6 @@ use crate::table::key;
 use crate::table::look_up;
 use grammar::item::Item;
 use grammar::item::Kind;
-use letters::token::Token;
 use letters::token::bytes_of;
 
 // Declares an object, and enters its name.

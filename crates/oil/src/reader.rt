@@ -8,7 +8,7 @@ ghost use Rattle.oil.specs.Table.{blank, looked};
 ghost use Rattle.oil.specs.Draft.{Bounded, Sound-draft};
 ghost use Rattle.oil.specs.Judging.{proceed, advanced};
 ghost use Rattle.oil.specs.Records.{Ready, noted-at, Goes-on, left-after};
-ghost use Rattle.oil.specs.Reading.{read-all};
+ghost use Rattle.oil.specs.Reading.{read-all, Bound-free};
 ghost use Rattle.oil.specs.Outcome.{outcome, table-after, Plan-after};
 ghost use Rattle.oil.specs.Meaning.{Understood};
 ghost use Rattle.oil.specs.First.{Left-free, Right-free};
@@ -28,6 +28,9 @@ use grammar::item::Step;
 use grammar::parser::begin;
 use grammar::parser::next_item;
 use plan::record::Plan;
+
+// How many records a table needs: one for each of 64 tasks, 32 resources and 32 events.
+const RECORDS: usize = 128;
 
 // A text that is read to its end, or how to go on.
 #[derive(Clone, Copy)]
@@ -87,16 +90,24 @@ fn gather(text: &[u8], names: &mut [NameRecord]) -> Result<Draft, PlanFault>
     }
 }
 
-// Reads a text into a plan, with a table of at least 128 records for the names.
+// Reads a text into a plan, with a table of at least 128 records for the names. What it promises of every text:
+// value: the answer is what the definitions give, item by item from the left;
+// table: a table that is large enough is left empty, any other as it was;
+// plan: an accepted text gives its plan, and a refusal leaves the plan as it was;
+// meaning: a text is accepted exactly if its tokens spell a well-formed tree of objects, and the plan is the tree's;
+// bound: the bound that the definitions put on the number of items is never reached;
+// nothing_left: cut just before its fault, a text is accepted or refused only for having ended;
+// nothing_right: every text that agrees through the byte after the faulty token has the same fault.
 pub fn read(text: &[u8], names: &mut [NameRecord], plan: &mut Plan) -> Result<(), PlanFault>
     ensures value { λ r. ⌜ r ≡ outcome (now (text .entry)) (length (now (names .entry))) ⌝ }
     ensures table { λ r. ⌜ now (names .exit) ≡ table-after (now (names .entry)) ⌝ }
     ensures plan { λ r. ⌜ Plan-after (now (text .entry)) (length (now (names .entry))) (now (plan .entry)) (now (plan .exit)) r ⌝ }
     ensures meaning { λ r. ⌜ Understood (now (text .entry)) (length (now (names .entry))) (now (plan .exit)) r ⌝ }
+    ensures bound { λ _. ⌜ Bound-free (now (text .entry)) ⌝ }
     ensures nothing_left { λ r. ⌜ Left-free (now (text .entry)) (length (now (names .entry))) r ⌝ }
     ensures nothing_right { λ r. ⌜ Right-free (now (text .entry)) (length (now (names .entry))) r ⌝ }
 {
-    if names.len() < 128 {
+    if names.len() < RECORDS {
         return Err(refuse(PlanCause::SmallTable, 0));
     }
     clear(names);

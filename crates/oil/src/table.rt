@@ -60,6 +60,7 @@ pub(crate) fn key(name: &[u8]) -> [u8; 32]
     all
 }
 
+// Are both keys the same?
 fn same_key(a: &[u8; 32], b: &[u8; 32]) -> bool
     ensures { λ r. ⌜ r ≡ sameBytes (now (a .entry)) (now (b .entry)) ⌝ }
 {

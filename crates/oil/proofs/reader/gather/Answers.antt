@@ -1,5 +1,4 @@
 use mathlib.Core.Path.{ap, sym, subst, _∙_}
-use lib.ListN.{length}
 use Rattle.std.specs.Results.{Cases}
 use Rattle.oil.specs.Reading.{read-all}
 use Rattle.oil.specs.Records.{Ready, left-after}

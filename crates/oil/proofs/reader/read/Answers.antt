@@ -4,6 +4,7 @@ use Rattle.std.specs.declared.result.Result.the-variants.{Ok}
 use borrow.Author.Needs.{needs}
 use Rattle.oil.specs.Outcome.{outcome, Plan-after}
 use Rattle.oil.proofs.Understands.{understood-by}
+use Rattle.oil.proofs.Bounds.{bound-free}
 use Rattle.oil.proofs.Laws.{left-free, right-free}
 use Rattle.oil.proofs.reader.read.Needs as need
 
@@ -19,6 +20,7 @@ returns-in-Break-draft c =
       table = search needs;
       plan = plan;
       meaning = understood-by text records old old (c .from-residual .result) value plan;
+      bound = bound-free text;
       nothing-left = left-free text records (c .from-residual .result) value;
       nothing-right = right-free text records (c .from-residual .result) value;
     }
@@ -35,6 +37,19 @@ returns c =
       table = search needs;
       plan = plan;
       meaning = understood-by text records old (c .plan-of .result) (Ok tt) value plan;
+      bound = bound-free text;
       nothing-left = left-free text records (Ok tt) value;
       nothing-right = right-free text records (Ok tt) value;
+    }
+
+pub returns-then-names-lt-RECORDS : need.returns-then-names-lt-RECORDS
+returns-then-names-lt-RECORDS c =
+    record {
+      value = search needs;
+      table = search needs;
+      plan = search needs;
+      meaning = search needs;
+      bound = bound-free (c .args .text .now);
+      nothing-left = search needs;
+      nothing-right = search needs;
     }

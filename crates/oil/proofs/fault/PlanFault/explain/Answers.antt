@@ -1,4 +1,4 @@
-use mathlib.Core.Path.{sym, ap, _∙_}
+use mathlib.Core.Path.{sym, ap}
 use Rattle.oil.specs.Faults.{explanation}
 use Rattle.oil.proofs.fault.PlanFault.explain.Needs as need
 
