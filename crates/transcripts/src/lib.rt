@@ -2,5 +2,6 @@
 pub mod input;
 pub mod outputs;
 pub mod plans;
+mod rooms;
 pub mod runs;
 pub mod service;
