@@ -2,7 +2,7 @@
 ghost use mathlib.Core.Path.{_≡_};
 ghost use mathlib.Core.Bool.{true, false};
 ghost use mathlib.Core.List.{_∷_, []};
-ghost use Prim.Native.Nat.{_<_};
+ghost use Prim.Native.Nat.{_<_, _≤_};
 ghost use lib.ListN.{length};
 ghost use Rattle.std.specs.Options.{Cases};
 ghost use Rattle.texts.specs.Records.{records, without-return, feeds, Settled};
@@ -58,16 +58,31 @@ pub fn cut_record(rest: &[u8]) -> Option<(&[u8], &[u8])>
     }
 }
 
+// How many line ends a short row of bytes has. Its count has 8 bits, so that a row is counted 16 bytes at a time.
+fn few_line_ends(row: &[u8]) -> u8
+    requires { ⌜ length (now row) ≤ 128 ⌝ }
+    ensures { λ r. ⌜ r ≡ feeds (now (row .entry)) ⌝ }
+{
+    let mut count = 0u8;
+    for b in row {
+        if *b == b'\n' {
+            count += 1;
+        }
+    }
+    count
+}
+
 // How many line ends the bytes have. As many records of an input are settled: what follows does not change them.
 pub fn line_ends(bytes: &[u8]) -> usize
     ensures count { λ r. ⌜ r ≡ feeds (now (bytes .entry)) ⌝ }
     ensures settles { λ r. ⌜ Settled r (now (bytes .entry)) ⌝ }
 {
     let mut count = 0;
-    for b in bytes {
-        if *b == b'\n' {
-            count += 1;
-        }
+    let mut rest = bytes;
+    while rest.len() > 128 {
+        let (row, after) = rest.split_at(128);
+        count += few_line_ends(row) as usize;
+        rest = after;
     }
-    count
+    count + few_line_ends(rest) as usize
 }

@@ -3,5 +3,6 @@ pub mod diagnosis;
 pub mod input;
 pub mod outputs;
 pub mod plans;
+mod rooms;
 pub mod runs;
 pub mod service;

@@ -13,6 +13,8 @@ ghost use Rattle.texts.specs.Lines.{header, fault-line};
 ghost use Rattle.transcripts.specs.Lines.{lines-of, Grown};
 ghost use Rattle.transcripts.specs.Outputs.{Read-as, begun, body-for, output-for};
 use crate::plans::read_plan;
+use crate::rooms::room_for;
+use crate::rooms::with_room;
 use crate::runs::transcribe;
 use kernel::kernel::Kernel;
 use machine::Call;
@@ -95,5 +97,5 @@ pub fn tell(out: Vec<u8>, plan_text: &[u8], input: &[u8]) -> Result<Vec<u8>, All
 pub fn layrun(heap: Global, plan_text: &[u8], input: &[u8]) -> Result<Vec<u8>, AllocError>
     ensures { λ r. ⌜ made r (λ v. (x : Result Plan PlanFault) × Read-as (now («plan_text» .entry)) x × (vec-items v ≡ output-for x (now (input .entry)))) ⌝ }
 {
-    tell(Vec::new(heap), plan_text, input)
+    tell(with_room(heap, room_for(input)), plan_text, input)
 }

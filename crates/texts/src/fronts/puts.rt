@@ -16,7 +16,7 @@ fn hex_digit(d: u8) -> u8
     requires { ⌜ d < 16 ⌝ }
     ensures { λ r. ⌜ r ≡ digitChar d ⌝ }
 {
-    if d < 10 { b'0' + d } else { b'a' + (d - 10) }
+    b"0123456789abcdef"[d as usize]
 }
 
 impl Front {
@@ -75,12 +75,15 @@ impl Front {
         ensures room { λ _. ⌜ now (self .entry) .start ≡ now (self .exit) .start + count ⌝ }
     {
         let mut left = v;
+        let mut at = self.start;
         let mut places = count;
         while places > 0 {
             places -= 1;
-            self.put(hex_digit((left % 16) as u8));
+            at -= 1;
+            self.bytes[at] = hex_digit((left % 16) as u8);
             left /= 16;
         }
+        self.start = at;
     }
 
     // Puts the 16 hexadecimal digits of v before the text.

@@ -7,6 +7,7 @@ ghost use Rattle.std.specs.Results.{isOk};
 ghost use Rattle.texts.specs.Records.{feeds};
 ghost use Rattle.transcripts.specs.Inputs.{bytes-of, Enough};
 use crate::input::Input;
+use crate::rooms::with_room;
 use std::alloc::AllocError;
 use std::alloc::Global;
 use texts::records::line_ends;
@@ -17,7 +18,7 @@ impl Input {
         ensures { λ r. ⌜ bytes-of r ≡ [] ⌝ }
     {
         Input {
-            bytes: Vec::new(heap),
+            bytes: with_room(heap, 16_777_216),
             ends: 0,
         }
     }

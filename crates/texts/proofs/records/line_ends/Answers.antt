@@ -1,26 +1,28 @@
-use mathlib.Core.Path.{_≡_, sym, ap, _∙_}
+use mathlib.Core.Path.{_≡_, ap, _∙_}
 use Prim.Native.Nat.{_+_}
 use native.Mathlib.Omega.{arith}
 use lib.Dec.{eqb}
-use Rattle.std.proofs.shelf.Lists.{take-all}
-use Rattle.std.proofs.shelf.Sums.{countBy-more-yes, countBy-more-no}
-use Rattle.std.proofs.shelf.Tests.{eq-eqb, ne-eqb}
+use Rattle.std.proofs.shelf.Sums.{countBy-le-length}
 use Rattle.texts.specs.Records.{feeds}
-use Rattle.texts.proofs.Settled.{settled}
+use Rattle.texts.proofs.Settled.{feeds-append, settled}
 use Rattle.texts.proofs.records.line_ends.Needs as need
-use Rattle.texts.proofs.records.line_ends.Needs.{then-b-eq10, else-b-eq10}
 
-pub loop-b-again : need.loop-b-again
-loop-b-again c =
-    let bs = c .args .bytes .now in
-    let i = c .loop-b .b-index in
-    elim (c .if-b-eq10 .came) [
-      | then-b-eq10 w ↦ (w .count-is ∙ ap (λ n. n + 1) (c .loop-b .inv .0) ∙ sym (countBy-more-yes (λ b. eqb b 10) bs i 0 (c .loop-b-test .taken) (eq-eqb _ 10 (w .if-b-eq10 .taken))), omega (arith, w .count-is))
-      | else-b-eq10 w ↦ (w .count-is ∙ c .loop-b .inv .0 ∙ sym (countBy-more-no (λ b. eqb b 10) bs i 0 (c .loop-b-test .taken) (ne-eqb _ 10 (w .if-b-eq10 .left))), omega (arith, w .count-is))
-    ]
+-- The count with the row.
+counted : (c : need.After-few-line-ends) → c .loop-rest .count + c .few-line-ends .result + feeds (c .split-at .result .1 .now) ≡ feeds (c .args .bytes .now)
+counted c =
+    omega (arith, c .loop-rest .inv, c .few-line-ends .ensures, ap feeds (c .split-at .ensures .places .0), feeds-append (c .split-at .result .0 .now) (c .split-at .result .1 .now))
+
+pub add-count : need.add-count
+add-count c = omega (arith, counted c, countBy-le-length (λ b. eqb b 10) (c .args .bytes .now))
+
+pub loop-rest-again : need.loop-rest-again
+loop-rest-again c = counted c
+
+pub add-result : need.add-result
+add-result c = omega (arith, c .loop-rest .inv, c .few-line-ends-2 .ensures, countBy-le-length (λ b. eqb b 10) (c .args .bytes .now))
 
 pub returns : need.returns
 returns c =
     let bs = c .args .bytes .now in
-    let all : c .loop-b .count ≡ feeds bs = c .loop-b .inv .0 ∙ ap feeds (take-all (c .loop-b .b-index) bs (c .loop-b-test .left)) in
-    record { count = all; settles = settled bs (c .loop-b .count) (omega arith) }
+    let all : c .loop-rest .count + c .few-line-ends-2 .result ≡ feeds bs = omega (arith, c .loop-rest .inv, c .few-line-ends-2 .ensures) in
+    record { count = all; settles = settled bs (c .loop-rest .count + c .few-line-ends-2 .result) (omega arith) }

@@ -1,9 +1,12 @@
 use mathlib.Core.Path.{_≡_}
-use Prim.Native.Nat.{_≤_}
-use lib.ListN.{take}
+use Prim.Native.Nat.{_+_}
+use lib.ListN.{length}
 use Rattle.texts.specs.Records.{feeds}
 use Rattle.texts.proofs.records.line_ends.Given as given
 
--- The count is that of the bytes so far.
-abbrev pub Inv-loop-b : given.InvT-loop-b
-Inv-loop-b l = (l .count ≡ feeds (take (l .b-index) (l .bytes))) × (l .count ≤ l .b-index)
+-- The count, and that of what is left, are the whole count.
+abbrev pub Inv-loop-rest : given.InvT-loop-rest
+Inv-loop-rest l = l .count + feeds (l .rest) ≡ feeds (l .bytes)
+
+abbrev pub μ-loop-rest : given.MeasureT-loop-rest
+μ-loop-rest l = length (l .rest)
