@@ -7,6 +7,7 @@ use native.Mathlib.Omega.{arith}
 use lib.Dec.{eqb, ltb}
 use Rattle.std.proofs.shelf.Tests.{cases-eq, cases-lt, cases-bool, lt-ltb, le-ltb, eq-eqb, ne-eqb, false≢true, and-left, and-from, or-left, or-right, not-from-false, cond-true, cond-false}
 use Rattle.vectors.specs.Vectors.{in-vector, with, without}
+use Rattle.kernel.specs.Parts.{below}
 use Rattle.vectors.proofs.Bits.{and-false, or-false}
 use Rattle.vectors.proofs.Vectors.{in-none}
 
@@ -56,10 +57,6 @@ put-in t c rest old chained y n = ⊎-elim
 -- nothing is left
 pub all-there : (c : ℕ) (rest old chained : ℕ → Bool) → ((k : ℕ) → rest k ≡ false) → old ≡ joined c rest old chained
 all-there c rest old chained h = fun-ext (λ k. sym (or-false (old k)) ∙ sym (ap (λ b. old k || (ltb k c && (b && not (chained k)))) (h k) ∙ ap (λ b. old k || b) (and-false (ltb k c))))
-
--- the members below i
-abbrev pub below : ℕ → (ℕ → Bool) → ℕ → Bool
-below i m k = ltb k i && m k
 
 pub below-none : (m : ℕ → Bool) → in-vector 0 ≡ below 0 m
 below-none m = fun-ext (λ k. in-none k ∙ sym (and-left (ltb k 0) (m k) (le-ltb k 0 (omega arith))))

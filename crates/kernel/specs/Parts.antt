@@ -1,7 +1,8 @@
 -- What the parts of a core stand for.
 use Prim.Native.Nat.{ℕ}
-use mathlib.Core.Bool.{Bool}
+use mathlib.Core.Bool.{Bool, _&&_}
 use mathlib.Core.List.{List}
+use lib.Dec.{ltb}
 use lib.ListN.{getD}
 use Rattle.vectors.specs.Vectors.{in-vector}
 use Rattle.kernel.specs.declared.state.Chain.{Chain}
@@ -20,3 +21,7 @@ held-in h = held-of (h .locks) (h .count)
 -- Task t is marked for event e.
 abbrev pub marks-in : Core → ℕ → ℕ → Bool
 marks-in k e t = in-vector (getD (k .marks) e 0) t
+
+-- The members of a set that are below i.
+abbrev pub below : ℕ → (ℕ → Bool) → ℕ → Bool
+below i m k = ltb k i && m k
