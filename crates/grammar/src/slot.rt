@@ -24,7 +24,7 @@ pub enum Slot {
 }
 
 // May the token stand at the slot?
-pub fn fits(text: &[u8], slot: Slot, token: Token) -> bool
+pub(crate) fn fits(text: &[u8], slot: Slot, token: Token) -> bool
     ensures { λ r. ⌜ r ≡ admits (now (text .entry)) slot token ⌝ }
 {
     match (slot, token.what) {
@@ -38,7 +38,7 @@ pub fn fits(text: &[u8], slot: Slot, token: Token) -> bool
 }
 
 // The next token.
-pub fn token(text: &[u8], pos: usize) -> Result<Token, GrammarFault>
+pub(crate) fn token(text: &[u8], pos: usize) -> Result<Token, GrammarFault>
     ensures { λ r. ⌜ r ≡ lexed (now (text .entry)) pos ⌝ }
 {
     let token = next(text, pos)?;
@@ -46,7 +46,7 @@ pub fn token(text: &[u8], pos: usize) -> Result<Token, GrammarFault>
 }
 
 // Reads a token that has to stand at the slot, and says where the text goes on.
-pub fn expect(text: &[u8], pos: usize, slot: Slot) -> Result<usize, GrammarFault>
+pub(crate) fn expect(text: &[u8], pos: usize, slot: Slot) -> Result<usize, GrammarFault>
     ensures { λ r. ⌜ r ≡ expected (now (text .entry)) slot pos ⌝ }
 {
     let token = token(text, pos)?;
@@ -58,7 +58,7 @@ pub fn expect(text: &[u8], pos: usize, slot: Slot) -> Result<usize, GrammarFault
 }
 
 // Reads tokens that have to stand at the slots, one after another, and says where the text goes on.
-pub fn follow(text: &[u8], pos: usize, slots: &[Slot]) -> Result<usize, GrammarFault>
+pub(crate) fn follow(text: &[u8], pos: usize, slots: &[Slot]) -> Result<usize, GrammarFault>
     ensures { λ r. ⌜ r ≡ followed (now (text .entry)) (now (slots .entry)) pos ⌝ }
 {
     let mut at = pos;

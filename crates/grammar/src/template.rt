@@ -67,7 +67,7 @@ const ACTIVATED: [Slot; 5] = [
     Slot::Mark(Mark::Semicolon),
 ];
 
-pub fn slots_after(state: State) -> &'static [Slot]
+pub(crate) fn slots_after(state: State) -> &'static [Slot]
     ensures { λ r. ⌜ now r ≡ template state ⌝ }
 {
     match state {

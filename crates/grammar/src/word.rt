@@ -26,7 +26,7 @@ pub enum Word {
 }
 
 // How a keyword is spelled.
-pub fn spelling(word: Word) -> &'static [u8]
+pub(crate) fn spelling(word: Word) -> &'static [u8]
     ensures { λ r. ⌜ now r ≡ spelt word ⌝ }
 {
     match word {
@@ -49,7 +49,7 @@ pub fn spelling(word: Word) -> &'static [u8]
 }
 
 // Does the token have these bytes?
-pub fn spells(text: &[u8], token: Token, bytes: &[u8]) -> bool
+pub(crate) fn spells(text: &[u8], token: Token, bytes: &[u8]) -> bool
     ensures { λ r. ⌜ r ≡ sameBytes (bytes-of (now (text .entry)) token) (now (bytes .entry)) ⌝ }
 {
     bytes_of(text, token) == bytes

@@ -8,7 +8,7 @@ use crate::bytes::is_blank;
 use crate::slices::cut;
 
 // Does the text begin with this byte?
-pub fn begins(text: &[u8], byte: u8) -> bool
+pub(crate) fn begins(text: &[u8], byte: u8) -> bool
     ensures value { λ r. ⌜ r ≡ begins-with byte (now (text .entry)) ⌝ }
     ensures some { λ r. ⌜ (r ≡ true → 0 < length (now (text .entry))) ⌝ }
 {
@@ -31,7 +31,7 @@ fn skips(comment: bool, byte: u8, after: &[u8]) -> Option<bool>
 }
 
 // How many bytes of blanks and comments the text begins with.
-pub fn blanks_len(text: &[u8]) -> usize
+pub(crate) fn blanks_len(text: &[u8]) -> usize
     ensures count { λ r. ⌜ r ≡ blanks false (now (text .entry)) ⌝ }
     ensures bound { λ r. ⌜ r ≤ length (now (text .entry)) ⌝ }
 {

@@ -14,7 +14,7 @@ use crate::token::Token;
 use crate::token::What;
 
 // How many bytes the text begins with that go on a name.
-pub fn name_len(text: &[u8]) -> usize
+pub(crate) fn name_len(text: &[u8]) -> usize
     ensures count { λ r. ⌜ r ≡ leading name-byte (now (text .entry)) ⌝ }
     ensures bound { λ r. ⌜ r ≤ length (now (text .entry)) ⌝ }
 {

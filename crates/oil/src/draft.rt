@@ -23,7 +23,7 @@ pub struct Draft {
 }
 
 // A draft of nothing.
-pub fn empty() -> Draft
+pub(crate) fn empty() -> Draft
     ensures { λ r. ⌜ r ≡ empty-draft ⌝ }
 {
     Draft {
@@ -57,7 +57,7 @@ pub(crate) fn add(vectors: [u64; 32], index: u8, tasks: u64) -> [u64; 32]
 }
 
 // The draft with a task's number.
-pub fn prioritize(draft: Draft, value: u32, place: usize) -> Result<Draft, PlanFault>
+pub(crate) fn prioritize(draft: Draft, value: u32, place: usize) -> Result<Draft, PlanFault>
     ensures { λ r. ⌜ r ≡ prioritized draft value place ⌝ }
 {
     let fault = refuse(PlanCause::WrongNumber, place);
@@ -78,7 +78,7 @@ pub fn prioritize(draft: Draft, value: u32, place: usize) -> Result<Draft, PlanF
 }
 
 // The draft as it is, where its task is activated once.
-pub fn activate(draft: Draft, value: u32, place: usize) -> Result<Draft, PlanFault>
+pub(crate) fn activate(draft: Draft, value: u32, place: usize) -> Result<Draft, PlanFault>
     ensures { λ r. ⌜ r ≡ activated draft value place ⌝ }
 {
     if value == 1 {
@@ -120,7 +120,7 @@ pub(crate) fn grow(draft: Draft, kind: Kind, place: usize) -> Result<Draft, Plan
 }
 
 // The number of the next object of this kind; a task gets its number from its PRIORITY.
-pub fn next_number(draft: Draft, kind: Kind) -> u8
+pub(crate) fn next_number(draft: Draft, kind: Kind) -> u8
     ensures { λ r. ⌜ r ≡ next-number draft kind ⌝ }
 {
     match kind {
@@ -131,7 +131,7 @@ pub fn next_number(draft: Draft, kind: Kind) -> u8
 }
 
 // The draft of a complete text: it has a task.
-pub fn finish(draft: Draft, end: usize) -> Result<Draft, PlanFault>
+pub(crate) fn finish(draft: Draft, end: usize) -> Result<Draft, PlanFault>
     ensures { λ r. ⌜ r ≡ finished draft end ⌝ }
 {
     if draft.declared == 0 {

@@ -16,7 +16,7 @@ pub const HEAD: &str = "OIL_VERSION=\"2.5\";CPU c{";
 pub const TASK: &str = "TASK t{PRIORITY=1;SCHEDULE=FULL;ACTIVATION=1;AUTOSTART=FALSE;};";
 
 // A text of several parts, one after another.
-pub fn joined(heap: Global, parts: &[&str]) -> Result<String, AllocError> {
+pub(crate) fn joined(heap: Global, parts: &[&str]) -> Result<String, AllocError> {
     let mut all = String::new(heap);
     for part in parts {
         all.push_str(part)?;
@@ -25,7 +25,7 @@ pub fn joined(heap: Global, parts: &[&str]) -> Result<String, AllocError> {
 }
 
 // A text of the same part many times.
-pub fn repeated(heap: Global, part: &str, times: usize) -> Result<String, AllocError> {
+pub(crate) fn repeated(heap: Global, part: &str, times: usize) -> Result<String, AllocError> {
     let mut all = String::new(heap);
     for _ in 0..times {
         all.push_str(part)?;
@@ -34,7 +34,12 @@ pub fn repeated(heap: Global, part: &str, times: usize) -> Result<String, AllocE
 }
 
 // Objects r0, r1 .. of a kind of object whose body is the same for all.
-pub fn objects(heap: Global, kind: &str, body: &str, count: u8) -> Result<String, AllocError> {
+pub(crate) fn objects(
+    heap: Global,
+    kind: &str,
+    body: &str,
+    count: u8,
+) -> Result<String, AllocError> {
     let mut all = String::new(heap);
     for i in 0..count {
         let object = format!(heap, "{kind} {kind}{i}{body}")?;
@@ -44,7 +49,7 @@ pub fn objects(heap: Global, kind: &str, body: &str, count: u8) -> Result<String
 }
 
 // Tasks with the priorities from 0 on, as many as there are priorities, and then one more of another name.
-pub fn tasks(heap: Global, count: u8) -> Result<String, AllocError> {
+pub(crate) fn tasks(heap: Global, count: u8) -> Result<String, AllocError> {
     let mut all = String::new(heap);
     for i in 0..count {
         let task = format!(

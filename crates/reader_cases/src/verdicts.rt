@@ -13,7 +13,7 @@ use plan::record::Plan;
 use std::test::*;
 
 // Reads a text with a new table and a new plan.
-pub fn verdict(text: &str) -> Result<Plan, PlanFault> {
+pub(crate) fn verdict(text: &str) -> Result<Plan, PlanFault> {
     let mut names = [NameRecord::empty(); 128];
     let mut plan = Plan::unfilled();
     read(text.as_bytes(), &mut names, &mut plan)?;
@@ -21,7 +21,7 @@ pub fn verdict(text: &str) -> Result<Plan, PlanFault> {
 }
 
 // The number and the place of the fault of a text, or 0 and 0.
-pub fn fault(text: &str) -> (u8, usize) {
+pub(crate) fn fault(text: &str) -> (u8, usize) {
     match verdict(text) {
         Ok(_) => (0, 0),
         Err(fault) => (fault.number(), fault.place()),
