@@ -1,6 +1,9 @@
 // Prints the blocking sheet of the plan of plan.oil: its blocking table, with the run that shows each entry.
+#![tactic(auto)]
+
 use sheet::pages::blocksheet;
 use std::io::{ErrorKind, Write};
+use std::process::ExitCode;
 use std::{fs, io};
 use transcripts::diagnosis::diagnose;
 use transcripts::plans::read_plan;
@@ -32,10 +35,13 @@ fn run(rt: &HostRuntime) -> io::Result<()> {
     Ok(())
 }
 
-fn main(rt: HostRuntime) -> io::Result<()> {
-    let result = run(&rt);
-    if let Err(e) = &result {
-        let _ = eprintln!(rt; "blocksheet: {e}");
+// Want of memory, and input or output that fails, end with a line on standard error and status 1.
+fn main(rt: HostRuntime) -> ExitCode {
+    match run(&rt) {
+        Ok(()) => ExitCode::SUCCESS,
+        Err(e) => {
+            let _ = eprintln!(rt; "blocksheet: {e}");
+            ExitCode::FAILURE
+        }
     }
-    result
 }

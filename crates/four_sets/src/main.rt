@@ -1,6 +1,8 @@
 // Runs one list of calls over a kernel on each make of waiting set, and prints the lines of the first and whether those
 // of the others are equal: a word set, a two-level set, a pair of words, and a pair of a pair and a two-level set, which
 // is the first alone.
+#![tactic(auto)]
+
 ghost use Rattle.std.specs.Prelude.{◌≡◌, ℕ, Bool, IfOk};
 ghost use Rattle.machine.specs.declared.Call.TheVariants.{Install};
 ghost use Rattle.machine.specs.Machine.{fresh, step};
@@ -26,7 +28,7 @@ fn lines<R: WaitingSet + Drop>(
     plan: Plan,
     calls: &[u8],
 ) -> Result<Vec<u8>, AllocError>
-    ensures { IfOk result (λ v. v.items ≡ lines_of (step (Install plan) (fresh (room set) (holds set))) calls.now) }
+    ensures { IfOk result (λ v. v.items ≡ lines_of (step (Install plan) (fresh (R.room set) (R.holds set))) calls.now) }
 {
     let mut kernel = Kernel::new(set);
     let _ = kernel.call(&Call::Install(plan));

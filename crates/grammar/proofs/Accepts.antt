@@ -6,7 +6,6 @@ use Rattle.letters.specs.declared.token.What.TheVariants as what
 use Rattle.letters.specs.declared.token.Token.{Token}
 use Rattle.grammar.specs.declared.slot.Slot.{Slot}
 use Rattle.grammar.specs.declared.slot.Slot.TheVariants as slot
-use Rattle.grammar.specs.declared.word.Word.{Word}
 use Rattle.grammar.specs.declared.word.Word.TheVariants as words
 use Rattle.grammar.specs.declared.item.Kind.{Kind}
 use Rattle.grammar.specs.declared.item.Kind.TheVariants as kind
@@ -15,7 +14,6 @@ use Rattle.grammar.specs.declared.item.State.TheVariants as state
 use Rattle.grammar.specs.declared.item.Item.{Item}
 use Rattle.grammar.specs.declared.item.Item.TheVariants as item
 use Rattle.grammar.specs.declared.item.Step.{Step}
-use Rattle.letters.specs.declared.token.Mark.{Mark}
 use Rattle.letters.specs.declared.token.Mark.TheVariants as marks
 use Rattle.letters.specs.Tokens.{token_at, bytes_of, is_name, is_end}
 use Rattle.grammar.specs.Faults.{and_then, misplaced}

@@ -15,7 +15,6 @@ use Rattle.grammar.specs.declared.item.State.{State}
 use Rattle.grammar.specs.declared.item.State.TheVariants as state
 use Rattle.grammar.specs.declared.item.Item.TheVariants as item
 use Rattle.grammar.specs.declared.item.Step.{Step}
-use Rattle.letters.specs.declared.token.Mark.{Mark}
 use Rattle.letters.specs.declared.token.Mark.TheVariants as marks
 use Rattle.letters.specs.Blanks.{blanks}
 use Rattle.letters.specs.Tokens.{is_name, is_quoted, Lexed, token_at}

@@ -11,8 +11,8 @@ use sets::waiting::WaitingSet;
 impl<R: WaitingSet> Kernel<R> {
     // Sets the marks of the tasks meant for event e.
     pub fn signal(&mut self, e: u16, v: Option<u64>) -> Result<Reply, Refusal>
-        ensures after { meaning room holds self.new ≡ step (Signal e v) (meaning room holds self.old) }
-        ensures value { result ≡ answer_to (Signal e v) (meaning room holds self.old) }
+        ensures after { meaning R.room R.holds self.new ≡ step (Signal e v) (meaning R.room R.holds self.old) }
+        ensures value { result ≡ answer_to (Signal e v) (meaning R.room R.holds self.old) }
     {
         if self.core.events() <= e {
             return Err(Refusal::NotDeclared);
@@ -27,8 +27,8 @@ impl<R: WaitingSet> Kernel<R> {
 
     // Tells the running task's mark for event e, and clears it.
     pub fn test(&mut self, e: u16) -> Result<Reply, Refusal>
-        ensures after { meaning room holds self.new ≡ step (Test e) (meaning room holds self.old) }
-        ensures value { result ≡ answer_to (Test e) (meaning room holds self.old) }
+        ensures after { meaning R.room R.holds self.new ≡ step (Test e) (meaning R.room R.holds self.old) }
+        ensures value { result ≡ answer_to (Test e) (meaning R.room R.holds self.old) }
     {
         let Some(t) = self.core.chain.running() else {
             return Err(Refusal::NoTaskRuns);

@@ -13,8 +13,8 @@ use vectors::highest;
 impl<R: WaitingSet> Kernel<R> {
     // Gives the kernel its plan, with all marks clear.
     pub fn install(&mut self, plan: &Plan) -> Result<Reply, Refusal>
-        ensures after { meaning room holds self.new ≡ step (Install plan.now) (meaning room holds self.old) }
-        ensures value { result ≡ answer_to (Install plan.now) (meaning room holds self.old) }
+        ensures after { meaning R.room R.holds self.new ≡ step (Install plan.now) (meaning R.room R.holds self.old) }
+        ensures value { result ≡ answer_to (Install plan.now) (meaning R.room R.holds self.old) }
     {
         if self.core.has_plan() {
             return Err(Refusal::AlreadyInstalled);

@@ -23,8 +23,8 @@ pub struct Kernel<R: WaitingSet> {
 impl<R: WaitingSet> Kernel<R> {
     // A kernel over the set, with no plan.
     pub fn new(set: R) -> Kernel<R>
-        ensures made { meaning room holds result ≡ fresh (room set) (holds set) }
-        ensures set { Set (room set) (holds set) }
+        ensures made { meaning R.room R.holds result ≡ fresh (R.room set) (R.holds set) }
+        ensures set { Set (R.room set) (R.holds set) }
     {
         Kernel {
             set,
@@ -34,8 +34,8 @@ impl<R: WaitingSet> Kernel<R> {
 
     // Starts the highest waiting task where it exceeds the running task and the system ceiling.
     fn dispatch(&mut self) -> Option<u8>
-        ensures value { result ≡ due (schedule_of self.old.core (room self.old.set) (holds self.old.set)) }
-        ensures after { schedule_of self.new.core (room self.new.set) (holds self.new.set) ≡ started result (schedule_of self.old.core (room self.old.set) (holds self.old.set)) }
+        ensures value { result ≡ due (schedule_of self.old.core (R.room self.old.set) (R.holds self.old.set)) }
+        ensures after { schedule_of self.new.core (R.room self.new.set) (R.holds self.new.set) ≡ started result (schedule_of self.old.core (R.room self.old.set) (R.holds self.old.set)) }
         ensures marks { marks_in self.new.core ≡ marks_in self.old.core }
     {
         let Some(w) = self.set.highest() else {
@@ -51,9 +51,9 @@ impl<R: WaitingSet> Kernel<R> {
 
     // Dispatches, and answers that a task was started, or else the word given.
     pub(crate) fn settle(&mut self, otherwise: Word) -> Reply
-        ensures value { result ≡ told (due (meaning room holds self.old).schedule) otherwise (meaning room holds self.old).schedule }
-        ensures after { (meaning room holds self.new).schedule ≡ started (due (meaning room holds self.old).schedule) (meaning room holds self.old).schedule }
-        ensures marks { (meaning room holds self.new).marks ≡ (meaning room holds self.old).marks }
+        ensures value { result ≡ told (due (meaning R.room R.holds self.old).schedule) otherwise (meaning R.room R.holds self.old).schedule }
+        ensures after { (meaning R.room R.holds self.new).schedule ≡ started (due (meaning R.room R.holds self.old).schedule) (meaning R.room R.holds self.old).schedule }
+        ensures marks { (meaning R.room R.holds self.new).marks ≡ (meaning R.room R.holds self.old).marks }
     {
         let word = match self.dispatch() {
             Some(_) => Word::Started,
@@ -79,8 +79,8 @@ impl<R: WaitingSet> Kernel<R> {
 
     // Puts each task of v that has not started into the waiting set.
     pub(crate) fn admit(&mut self, v: u64)
-        ensures after { (meaning room holds self.new).schedule ≡ moved (releasing (in_vector v)) (meaning room holds self.old).schedule }
-        ensures marks { (meaning room holds self.new).marks ≡ (meaning room holds self.old).marks }
+        ensures after { (meaning R.room R.holds self.new).schedule ≡ moved (releasing (in_vector v)) (meaning R.room R.holds self.old).schedule }
+        ensures marks { (meaning R.room R.holds self.new).marks ≡ (meaning R.room R.holds self.old).marks }
     {
         let mut rest = v;
         while let Some(t) = highest(rest) {

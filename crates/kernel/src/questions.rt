@@ -12,7 +12,7 @@ use sets::waiting::WaitingSet;
 impl<R: WaitingSet> Kernel<R> {
     // The running task.
     pub fn running(&self) -> Option<u8>
-        ensures { result ≡ runs_in (meaning room holds self.now).schedule }
+        ensures { result ≡ runs_in (meaning R.room R.holds self.now).schedule }
     {
         self.core.chain.running()
     }
@@ -20,8 +20,8 @@ impl<R: WaitingSet> Kernel<R> {
     // The vector v of the members below `first`, and the members of the row of eight that begins there.
     fn with_row(&self, v: u64, first: u8) -> u64
         requires row { first ≤ 56 }
-        requires so_far { in_vector v ≡ below first (holds self.now.set) }
-        ensures { in_vector result ≡ below (first + 8) (holds self.now.set) }
+        requires so_far { in_vector v ≡ below first (R.holds self.now.set) }
+        ensures { in_vector result ≡ below (first + 8) (R.holds self.now.set) }
     {
         let mut members = v;
         for t in first..first + 8 {
@@ -35,7 +35,7 @@ impl<R: WaitingSet> Kernel<R> {
     // The waiting tasks as a vector, read from the set. Row by row, since the compiler then joins the questions to
     // a set that is a vector itself.
     pub fn waiting(&self) -> u64
-        ensures { result ≡ vector_of 64 (meaning room holds self.now).schedule.waiting }
+        ensures { result ≡ vector_of 64 (meaning R.room R.holds self.now).schedule.waiting }
     {
         let v = self.with_row(0, 0);
         let v = self.with_row(v, 8);
@@ -49,28 +49,28 @@ impl<R: WaitingSet> Kernel<R> {
 
     // The holder of resource r.
     pub fn holder(&self, r: u16) -> Option<u8>
-        ensures { result ≡ holder_in (meaning room holds self.now).schedule.held r }
+        ensures { result ≡ holder_in (meaning R.room R.holds self.now).schedule.held r }
     {
         self.core.held.holder(r)
     }
 
     // The ceiling of resource r.
     pub fn ceiling(&self, r: u16) -> Option<u8>
-        ensures { result ≡ ceiling_under (meaning room holds self.now).schedule.plan r }
+        ensures { result ≡ ceiling_under (meaning R.room R.holds self.now).schedule.plan r }
     {
         self.core.ceiling(r)
     }
 
     // Whether task t is marked for event e.
     pub fn mark(&self, e: u16, t: u8) -> bool
-        ensures { result ≡ (meaning room holds self.now).marks e t }
+        ensures { result ≡ (meaning R.room R.holds self.now).marks e t }
     {
         self.core.marked(e, t)
     }
 
     // The system ceiling.
     pub fn system_ceiling(&self) -> Option<u8>
-        ensures { result ≡ system_ceiling_under (meaning room holds self.now).schedule.plan (meaning room holds self.now).schedule.held }
+        ensures { result ≡ system_ceiling_under (meaning R.room R.holds self.now).schedule.plan (meaning R.room R.holds self.now).schedule.held }
     {
         self.core.system_ceiling()
     }

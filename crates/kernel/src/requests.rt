@@ -11,8 +11,8 @@ use sets::waiting::WaitingSet;
 impl<R: WaitingSet> Kernel<R> {
     // Makes the call by its kind.
     fn act(&mut self, c: &Call) -> Result<Reply, Refusal>
-        ensures after { meaning room holds self.new ≡ step c.now (meaning room holds self.old) }
-        ensures value { result ≡ answer_to c.now (meaning room holds self.old) }
+        ensures after { meaning R.room R.holds self.new ≡ step c.now (meaning R.room R.holds self.old) }
+        ensures value { result ≡ answer_to c.now (meaning R.room R.holds self.old) }
     {
         match c {
             Call::Install(p) => self.install(p),
@@ -29,9 +29,9 @@ impl<R: WaitingSet> Kernel<R> {
     // Makes the call. State and answer are the machine's; and after any calls on a new kernel that lead here, the
     // history with this call and its answer is lawful: exclusion, blocked at most once, exact table.
     pub fn call(&mut self, c: &Call) -> Result<Reply, Refusal>
-        ensures after { meaning room holds self.new ≡ step c.now (meaning room holds self.old) }
-        ensures value { result ≡ answer_to c.now (meaning room holds self.old) }
-        ensures lawful { StaysLawful (meaning room holds self.old) c.now result }
+        ensures after { meaning R.room R.holds self.new ≡ step c.now (meaning R.room R.holds self.old) }
+        ensures value { result ≡ answer_to c.now (meaning R.room R.holds self.old) }
+        ensures lawful { StaysLawful (meaning R.room R.holds self.old) c.now result }
     {
         self.act(c)
     }

@@ -11,8 +11,8 @@ use sets::waiting::WaitingSet;
 impl<R: WaitingSet> Kernel<R> {
     // Locks resource r for the running task.
     pub fn lock(&mut self, r: u16) -> Result<Reply, Refusal>
-        ensures after { meaning room holds self.new ≡ step (Lock r) (meaning room holds self.old) }
-        ensures value { result ≡ answer_to (Lock r) (meaning room holds self.old) }
+        ensures after { meaning R.room R.holds self.new ≡ step (Lock r) (meaning R.room R.holds self.old) }
+        ensures value { result ≡ answer_to (Lock r) (meaning R.room R.holds self.old) }
     {
         let Some(t) = self.core.chain.running() else {
             return Err(Refusal::NoTaskRuns);
@@ -32,8 +32,8 @@ impl<R: WaitingSet> Kernel<R> {
 
     // Undoes the running task's lock of resource r, which has to be the newest.
     pub fn unlock(&mut self, r: u16) -> Result<Reply, Refusal>
-        ensures after { meaning room holds self.new ≡ step (Unlock r) (meaning room holds self.old) }
-        ensures value { result ≡ answer_to (Unlock r) (meaning room holds self.old) }
+        ensures after { meaning R.room R.holds self.new ≡ step (Unlock r) (meaning R.room R.holds self.old) }
+        ensures value { result ≡ answer_to (Unlock r) (meaning R.room R.holds self.old) }
     {
         let Some(t) = self.core.chain.running() else {
             return Err(Refusal::NoTaskRuns);

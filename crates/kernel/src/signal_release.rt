@@ -11,8 +11,8 @@ use sets::waiting::WaitingSet;
 impl<R: WaitingSet> Kernel<R> {
     // Sets the marks of the tasks meant for event e, and releases them.
     pub fn signal_release(&mut self, e: u16, v: Option<u64>) -> Result<Reply, Refusal>
-        ensures after { meaning room holds self.new ≡ step (SignalRelease e v) (meaning room holds self.old) }
-        ensures value { result ≡ answer_to (SignalRelease e v) (meaning room holds self.old) }
+        ensures after { meaning R.room R.holds self.new ≡ step (SignalRelease e v) (meaning R.room R.holds self.old) }
+        ensures value { result ≡ answer_to (SignalRelease e v) (meaning R.room R.holds self.old) }
     {
         if self.core.events() <= e {
             return Err(Refusal::NotDeclared);

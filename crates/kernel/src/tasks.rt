@@ -11,8 +11,8 @@ use sets::waiting::WaitingSet;
 impl<R: WaitingSet> Kernel<R> {
     // Releases the tasks of v; one that waits or has started is absorbed.
     pub fn release(&mut self, v: u64) -> Result<Reply, Refusal>
-        ensures after { meaning room holds self.new ≡ step (Release v) (meaning room holds self.old) }
-        ensures value { result ≡ answer_to (Release v) (meaning room holds self.old) }
+        ensures after { meaning R.room R.holds self.new ≡ step (Release v) (meaning R.room R.holds self.old) }
+        ensures value { result ≡ answer_to (Release v) (meaning R.room R.holds self.old) }
     {
         if self.core.any_undeclared(v) {
             return Err(Refusal::ForeignTask);
@@ -23,8 +23,8 @@ impl<R: WaitingSet> Kernel<R> {
 
     // Ends the running task.
     pub fn exit(&mut self) -> Result<Reply, Refusal>
-        ensures after { meaning room holds self.new ≡ step Exit (meaning room holds self.old) }
-        ensures value { result ≡ answer_to Exit (meaning room holds self.old) }
+        ensures after { meaning R.room R.holds self.new ≡ step Exit (meaning R.room R.holds self.old) }
+        ensures value { result ≡ answer_to Exit (meaning R.room R.holds self.old) }
     {
         let Some(_) = self.core.chain.running() else {
             return Err(Refusal::NoTaskRuns);

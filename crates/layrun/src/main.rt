@@ -1,5 +1,8 @@
 // Makes the calls of standard input on a kernel with the plan of plan.oil, and prints a line for each.
+#![tactic(auto)]
+
 use std::io::{ErrorKind, Read, Stdin, Write};
+use std::process::ExitCode;
 use std::{fs, io};
 use transcripts::diagnosis::diagnose;
 use transcripts::input::Input;
@@ -65,10 +68,13 @@ fn run(rt: &HostRuntime) -> io::Result<()> {
     Ok(())
 }
 
-fn main(rt: HostRuntime) -> io::Result<()> {
-    let result = run(&rt);
-    if let Err(e) = &result {
-        let _ = eprintln!(rt; "layrun: {e}");
+// Want of memory, and input or output that fails, end with a line on standard error and status 1.
+fn main(rt: HostRuntime) -> ExitCode {
+    match run(&rt) {
+        Ok(()) => ExitCode::SUCCESS,
+        Err(e) => {
+            let _ = eprintln!(rt; "layrun: {e}");
+            ExitCode::FAILURE
+        }
     }
-    result
 }

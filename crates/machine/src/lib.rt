@@ -1,6 +1,8 @@
 // The machine that every kernel stands for: the calls it takes, the answers it gives, and the reasons for which
 // it turns a call down, as types. What each call does and answers is defined in specs/: moves on the schedule,
 // the refusal table, and the machine; above them the words of a history, and the laws of every run.
+#![tactic(auto)]
+
 ghost use Rattle.std.specs.Prelude.{◌≡◌};
 ghost use Rattle.machine.specs.Numbers.{refusal_number};
 

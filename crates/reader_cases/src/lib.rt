@@ -1,4 +1,6 @@
 // The reader of plan texts on examples: accepted texts with their plans, each fault at its place, and the limits.
+#![tactic(auto)]
+
 #[cfg(test)]
 mod limits;
 #[cfg(test)]

@@ -30,9 +30,10 @@ fn yard(rt: HostRuntime) -> Result<(), Fail> {
     assert_eq!(rt; plan.declared, 0xa4);
     assert_eq!(rt; plan.resources, 1);
     assert_eq!(rt; plan.events, 0);
-    assert_eq!(rt; plan.users[0], 0x24);
-    assert_eq!(rt; plan.users[1], 0);
-    assert_eq!(rt; plan.registered[0], 0);
+    let (users, registered) = (plan.users, plan.registered);
+    assert_eq!(rt; users[0], 0x24);
+    assert_eq!(rt; users[1], 0);
+    assert_eq!(rt; registered[0], 0);
     Ok(())
 }
 
@@ -54,9 +55,10 @@ fn keywords_as_names(rt: HostRuntime) -> Result<(), Fail> {
     };
     assert_eq!(rt; plan.declared, 1 << 63);
     assert_eq!(rt; plan.events, 2);
-    assert_eq!(rt; plan.users[0], 1 << 63);
-    assert_eq!(rt; plan.registered[0], 0);
-    assert_eq!(rt; plan.registered[1], 1 << 63);
+    let (users, registered) = (plan.users, plan.registered);
+    assert_eq!(rt; users[0], 1 << 63);
+    assert_eq!(rt; registered[0], 0);
+    assert_eq!(rt; registered[1], 1 << 63);
     Ok(())
 }
 

@@ -20,7 +20,7 @@ pub fn show_entry<R: WaitingSet + Drop>(
     t: u8,
     r: u16,
 ) -> Option<Kernel<R>>
-    ensures { MatchOption result ((may_hold_up plan.now l t r && accepted (answer_to (Install plan.now) (fresh (room set) (holds set)))) ≡ false) (λ k. Shows plan.now l t r (room set) (holds set) (meaning room holds k)) }
+    ensures { MatchOption result ((may_hold_up plan.now l t r && accepted (answer_to (Install plan.now) (fresh (R.room set) (R.holds set)))) ≡ false) (λ k. Shows plan.now l t r (R.room set) (R.holds set) (meaning R.room R.holds k)) }
 {
     let mut kernel = Kernel::new(set);
     if !plan.may_hold_up(l, t, r) {

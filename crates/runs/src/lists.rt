@@ -24,9 +24,9 @@ pub fn run<R: WaitingSet + Drop>(
     set: R,
     calls: &[Call],
 ) -> Result<Finished<R>, AllocError>
-    ensures after { IfOk result (λ x. meaning room holds x.kernel ≡ after_all calls.now (fresh (room set) (holds set))) }
-    ensures told { IfOk result (λ x. x.answers.items ≡ answers_to calls.now (fresh (room set) (holds set))) }
-    ensures lawful { IfOk result (λ x. (n : ℕ) → Lawful (history (room set) (holds set) (take n calls.now))) }
+    ensures after { IfOk result (λ x. meaning R.room R.holds x.kernel ≡ after_all calls.now (fresh (R.room set) (R.holds set))) }
+    ensures told { IfOk result (λ x. x.answers.items ≡ answers_to calls.now (fresh (R.room set) (R.holds set))) }
+    ensures lawful { IfOk result (λ x. (n : ℕ) → Lawful (history (R.room set) (R.holds set) (take n calls.now))) }
     ensures noted { IfOk result (λ x. (n : ℕ) → Lawful (paired (take n calls.now) (take n x.answers.items) [])) }
 {
     let mut kernel = Kernel::new(set);

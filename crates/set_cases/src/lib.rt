@@ -1,4 +1,6 @@
 // Waiting sets on examples: sizes at their bounds, members put and taken, and pairs on either side of 64.
+#![tactic(auto)]
+
 #[cfg(test)]
 mod tests {
     use sets::pair::Pair;

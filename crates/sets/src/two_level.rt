@@ -4,7 +4,7 @@
 ghost use Rattle.std.specs.Prelude.{◌≡◌, ℕ, ◌<◌, Bool, not, ◌==◌, slice_index};
 ghost use Rattle.vectors.specs.Vectors.{on};
 ghost use Rattle.sets.specs.Rows.{in_rows};
-ghost use Rattle.std.proofs.Common.{rules, arith};
+ghost use Rattle.std.proofs.Common.{rules};
 
 use crate::bits::{is_on, switched_off, switched_on};
 use crate::lowest::lowest_one;
@@ -35,9 +35,9 @@ impl WaitingSet for TwoLevelSet {
 
     ghost holds = { λ s. in_rows s.rows };
 
-    ghost small = { first_of (Prim.search rules, Prim.grind (arith, Self.row.coded.inj)) };
+    ghost small = { Prim.search rules };
 
-    ghost inside = { first_of (Prim.search rules, Prim.grind (arith, Self.row.coded.inj)) };
+    ghost inside = { Prim.search rules };
 
     fn size(&self) -> u8 {
         64

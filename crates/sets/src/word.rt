@@ -2,7 +2,6 @@
 ghost use Rattle.std.specs.Prelude.{◌≡◌, ℕ, ◌^◌, ◌<◌, ◌≤◌, min};
 ghost use Rattle.vectors.specs.Vectors.{in_vector};
 ghost use Rattle.vectors.proofs.Vectors.{in_below};
-ghost use Rattle.std.proofs.Common.{rules, arith};
 
 use crate::waiting::WaitingSet;
 use vectors::{contains, highest};
@@ -31,7 +30,7 @@ impl WaitingSet for WordSet {
 
     ghost holds = { λ s. in_vector s.word };
 
-    ghost small = { first_of (Prim.search rules, Prim.grind (arith, Self.row.coded.inj)) };
+    ghost small = { λ s. s.few };
 
     ghost inside = { λ s t e. in_below s.word s.size t s.within e };
 

@@ -1,5 +1,5 @@
 -- The list of entries is the blocking table.
-use Rattle.std.proofs.Common.{◌≡◌, ℕ, ◌<◌, Bool, true, false, cond, ◌&&◌, ltb, ◌⊎◌, List, [], ◌∷◌, sym, refl, ap, ◌∙◌, subst, inl, inr, arith}
+use Rattle.std.proofs.Common.{◌≡◌, ℕ, ◌<◌, Bool, true, false, cond, ◌&&◌, ltb, [], ◌∷◌, refl, ap, subst, inl, inr, arith}
 use Rattle.std.proofs.lemmas.Bool.{and_parts, ltb-true, leb-false, false≢true}
 use Rattle.vectors.proofs.Vectors.{in_small}
 use Rattle.plan.specs.declared.record.Plan.{Plan}

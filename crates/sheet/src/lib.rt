@@ -1,4 +1,6 @@
 // The blocking sheet of a plan: its blocking table, entry by entry, with the run that shows each.
+#![tactic(auto)]
+
 pub mod entries;
 pub mod lines;
 pub mod pages;

@@ -1,5 +1,7 @@
 // Prints what layrun prints on stored plan texts and inputs: nested resources and events, mixed line ends, an empty
 // input and a refused plan; and the blocking sheets of the first plan and of the refused one.
+#![tactic(auto)]
+
 use sheet::pages::blocksheet;
 use std::io::Write;
 use std::{fs, io};

@@ -24,7 +24,8 @@ fn full_and_empty_fields(rt: HostRuntime) -> Result<(), Fail> {
     };
     push_line(&mut out, 9, &refused)?;
     assert!(rt;
-        out.as_slice() == b"1000000,0,63,ffffffffffffffff,0,1\r\n9,21,,0000000000000020,,\r\n"
+        out.as_slice()
+            == b"1000000,0,63,ffffffffffffffff,0,1\r\n9,21,,0000000000000020,,\r\n".as_slice()
     );
     Ok(())
 }

@@ -1,5 +1,5 @@
 -- A record written from a call reads back as that call.
-use Rattle.std.proofs.Common.{◌≡◌, ℕ, zero, suc, ◌+◌, ◌/◌, ◌%◌, ◌^◌, ◌<◌, ◌≤◌, true, false, List, [], length, IfSome, Some, None, decimal, Option, refl, ap, append-nil, arith, MatchOption}
+use Rattle.std.proofs.Common.{◌≡◌, ℕ, zero, suc, ◌/◌, ◌%◌, ◌^◌, ◌<◌, ◌≤◌, true, false, List, length, IfSome, Some, None, decimal, Option, refl, ap, append-nil, arith, MatchOption}
 use Rattle.std.specs.Str.Parse.{AllDigits, digits_value}
 use Rattle.std.specs.Char.{digit_char}
 use Rattle.std.proofs.lemmas.Fmt.{decimal_is_IsNumeral, length-decimal-le}
@@ -13,7 +13,7 @@ use Rattle.texts.specs.declared.verbs.Verb.{Verb}
 use Rattle.texts.specs.declared.verbs.Verb.TheVariants.{Locks, Unlocks, Signals, SignalReleases, Tests}
 use Rattle.texts.specs.Fronts.{hex}
 use Rattle.texts.specs.Lines.{field}
-use Rattle.texts.specs.Spells.{Writes, Vector, Number, Spells}
+use Rattle.texts.specs.Spells.{Vector, Number, Spells}
 use Rattle.texts.specs.Spelling.{numbered, is_short, has_record, record_of, Fits, ReadsBack}
 use Rattle.texts.specs.Verbs.{word_of}
 use Rattle.texts.proofs.Spelt.{spelt_read}

@@ -1,10 +1,10 @@
 -- The records of an input are its only reading by line ends.
-use Rattle.std.proofs.Common.{◌≡◌, ℕ, zero, suc, ◌+◌, ◌-◌, ◌<◌, ◌≤◌, Bool, true, false, cond, eqb, ◌⊎◌, List, [], ◌∷◌, ◌++◌, length, get_or, take, sym, refl, ap, ◌∙◌, subst, inl, inr, ⊎_elim, append_assoc, append-nil, arith, length-append}
+use Rattle.std.proofs.Common.{◌≡◌, ℕ, ◌+◌, ◌-◌, ◌<◌, ◌≤◌, Bool, true, false, cond, eqb, ◌⊎◌, List, [], ◌∷◌, ◌++◌, length, get_or, take, sym, refl, ap, ◌∙◌, subst, inl, inr, ⊎_elim, append_assoc, arith, length-append}
 use Rattle.std.proofs.lemmas.List.{take_more, take_all, take_at, length_push, get_or_push}
 use Rattle.std.proofs.lemmas.Bool.{eqb-true, eqb-false, eq-eqb, ne_eqb, cond-true, cond-false}
 use Rattle.texts.specs.Pieces.{Lacks, pieces}
 use Rattle.texts.specs.Records.{without_return, among_lines, records}
-use Rattle.texts.specs.Readings.{NoReturn, Ended, Last, Begins, Reading, ReadByLineEnds}
+use Rattle.texts.specs.Readings.{NoReturn, Begins, Reading, ReadByLineEnds}
 use Rattle.texts.proofs.Cuts.{lacks_take, pieces_some, pieces_cut, pieces_last, AllLack, pieces_lack, rejoin, rejoined}
 
 -- The CR that ends a line.

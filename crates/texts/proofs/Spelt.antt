@@ -1,5 +1,5 @@
 -- A record is read as a call just where it spells it.
-use Rattle.std.proofs.Common.{◌≡◌, ℕ, ◌<◌, ◌≤◌, Bool, true, false, cond, ◌&&◌, ltb, leb, List, [], ◌∷◌, ◌++◌, length, Some, None, codes, Option, sym, refl, ap, ◌∙◌, subst, arith}
+use Rattle.std.proofs.Common.{◌≡◌, ℕ, ◌≤◌, Bool, true, false, cond, ltb, leb, List, [], ◌∷◌, ◌++◌, length, Some, None, codes, Option, sym, refl, ap, ◌∙◌, subst, arith}
 use Rattle.std.specs.Option.{option_map}
 use Rattle.std.specs.Str.Parse.{AllDigits, digits_value}
 use Rattle.std.specs.Char.{digit_value}
@@ -10,11 +10,11 @@ use Rattle.machine.specs.declared.Call.{Call}
 use Rattle.machine.specs.declared.Call.TheVariants.{Install, Release, Lock, Unlock, Exit, Signal, SignalRelease, Test}
 use Rattle.texts.specs.declared.verbs.Verb.{Verb}
 use Rattle.texts.specs.declared.verbs.Verb.TheVariants.{Releases, Locks, Unlocks, Exits, Signals, SignalReleases, Tests}
-use Rattle.texts.specs.Pieces.{Lacks, pieces, pieces_from}
+use Rattle.texts.specs.Pieces.{Lacks, pieces}
 use Rattle.texts.specs.Digits.{is_number, number, number_field, vector_field}
 use Rattle.texts.specs.Verbs.{word_of, named, verbs, verb_of}
 use Rattle.texts.specs.Requests.{asked_bare, asked_one, asked_two, both, asked_with, asked_as, asked_by, asked}
-use Rattle.texts.specs.Spells.{Writes, Vector, Number, OneField, TwoFields, Spells, AsksWhatItSpells}
+use Rattle.texts.specs.Spells.{Writes, Vector, Number, Spells, AsksWhatItSpells}
 use Rattle.texts.proofs.Cuts.{pieces_cut, pieces_last, rejoin, rejoined}
 use Rattle.texts.proofs.Numbers.{digits_from, digits_to, number_is}
 

@@ -1,5 +1,5 @@
 -- Bytes cut at a byte.
-use Rattle.std.specs.Prelude.{◌≡◌, ℕ, cond, List, [], ◌∷◌, ◌++◌, ◌==◌, ◌≢◌}
+use Rattle.std.specs.Prelude.{ℕ, cond, List, [], ◌∷◌, ◌++◌, ◌==◌, ◌≢◌}
 
 -- No byte of the list is b.
 abbrev pub Lacks : ℕ → List ℕ → Type 0

@@ -1,12 +1,12 @@
 -- What the loop over the records of an input keeps.
-use Rattle.std.proofs.Common.{◌≡◌, ℕ, zero, suc, ◌+◌, ◌-◌, ◌<◌, ◌≤◌, List, [], ◌∷◌, ◌++◌, length, take, is_err, Ok, Err, vec_items, vec_len, vec_capacity, Result, Vec, sym, refl, ap, ◌∙◌, subst, append_assoc, append-nil, arith, length-append}
+use Rattle.std.proofs.Common.{◌≡◌, ℕ, zero, suc, ◌+◌, ◌-◌, ◌<◌, ◌≤◌, List, [], ◌∷◌, ◌++◌, length, take, vec_items, vec_len, vec_capacity, Vec, sym, refl, ap, ◌∙◌, subst, append_assoc, append-nil, arith, length-append}
 use Rattle.machine.specs.Machine.{Machine}
 use Rattle.texts.specs.declared.outcomes.Report.{Report}
 use Rattle.texts.specs.Lines.{line}
 use Rattle.texts.specs.Records.{records}
 use Rattle.texts.specs.Requests.{asked}
 use Rattle.transcripts.specs.Reports.{after_record, report_after}
-use Rattle.transcripts.specs.Lines.{lines_from, Grown}
+use Rattle.transcripts.specs.Lines.{lines_from}
 
 take_first : {X : Type 0} (n : ℕ) (x : X) (xs : List X) → 0 < n → take n (x ∷ xs) ≡ x ∷ take (n - 1) xs
 take_first zero x xs some = absurd (omega arith)

@@ -1,5 +1,5 @@
 -- What is told after a record.
-use Rattle.std.specs.Prelude.{ℕ, Bool, Some, None, Ok, Err, Option}
+use Rattle.std.specs.Prelude.{Bool, Some, None, Ok, Err, Option}
 use Rattle.vectors.specs.Vectors.{vector_of}
 use Rattle.machine.specs.declared.Call.{Call}
 use Rattle.machine.specs.Schedules.{running, system_ceiling_under}

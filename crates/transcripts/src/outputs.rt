@@ -22,7 +22,7 @@ use texts::lines::{push_fault, push_header};
 
 // A new kernel over the set, to which the plan was offered.
 fn started<R: WaitingSet>(set: R, plan: Plan) -> Kernel<R>
-    ensures { meaning room holds result ≡ step (Install plan) (fresh (room set) (holds set)) }
+    ensures { meaning R.room R.holds result ≡ step (Install plan) (fresh (R.room set) (R.holds set)) }
 {
     let mut kernel = Kernel::new(set);
     let _ = kernel.call(&Call::Install(plan));

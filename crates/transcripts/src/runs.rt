@@ -20,7 +20,7 @@ pub fn transcribe<R: WaitingSet + Drop>(
     mut kernel: Kernel<R>,
     input: &[u8],
 ) -> Result<Vec<u8>, AllocError>
-    ensures { Grown out (lines_of (meaning room holds kernel) input.now) result }
+    ensures { Grown out (lines_of (meaning R.room R.holds kernel) input.now) result }
 {
     let mut rest = input;
     for count in 0..LIMIT {

@@ -12,7 +12,7 @@ use texts::requests::read_call;
 
 // What the kernel tells of itself, beside an outcome and a mark.
 fn report<R: WaitingSet>(kernel: &Kernel<R>, outcome: Outcome, mark: Option<bool>) -> Report
-    ensures { result ≡ report_on (meaning room holds kernel.now) outcome mark }
+    ensures { result ≡ report_on (meaning R.room R.holds kernel.now) outcome mark }
 {
     Report {
         outcome,
@@ -25,7 +25,7 @@ fn report<R: WaitingSet>(kernel: &Kernel<R>, outcome: Outcome, mark: Option<bool
 
 // What a kernel tells after a call that it gave this answer.
 pub fn report_with<R: WaitingSet>(kernel: &Kernel<R>, answer: Result<Reply, Refusal>) -> Report
-    ensures { result ≡ ToldWith answer (meaning room holds kernel.now) }
+    ensures { result ≡ ToldWith answer (meaning R.room R.holds kernel.now) }
 {
     match answer {
         Ok(reply) => report(kernel, Outcome::Accepted, reply.mark),
@@ -35,8 +35,8 @@ pub fn report_with<R: WaitingSet>(kernel: &Kernel<R>, answer: Result<Reply, Refu
 
 // Serves a record. One that spells no call leaves the kernel as it was.
 pub fn serve<R: WaitingSet>(kernel: &mut Kernel<R>, text: &[u8]) -> Report
-    ensures after { meaning room holds kernel.new ≡ after_record (asked text.now) (meaning room holds kernel.old) }
-    ensures value { result ≡ report_after (asked text.now) (meaning room holds kernel.old) }
+    ensures after { meaning R.room R.holds kernel.new ≡ after_record (asked text.now) (meaning R.room R.holds kernel.old) }
+    ensures value { result ≡ report_after (asked text.now) (meaning R.room R.holds kernel.old) }
 {
     let Some(call) = read_call(text) else {
         return report(kernel, Outcome::Unreadable, None);

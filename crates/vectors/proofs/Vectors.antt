@@ -1,5 +1,5 @@
 -- Task vectors in code: one bit set, one bit cleared, the highest.
-use Rattle.std.proofs.Common.{◌≡◌, ℕ, zero, suc, ◌+◌, ◌-◌, ◌*◌, ◌/◌, ◌%◌, ◌^◌, ◌<◌, ◌≤◌, min, Bool, true, false, cond, not, ◌&&◌, ◌||◌, eqb, ltb, ◌⊎◌, Some, None, Option, sym, refl, ap, ◌∙◌, subst, ⊎_elim, mod-lt, pow-suc, arith, pow_pos, pow_mono, shr_lt}
+use Rattle.std.proofs.Common.{◌≡◌, ℕ, zero, suc, ◌+◌, ◌-◌, ◌*◌, ◌/◌, ◌%◌, ◌^◌, ◌<◌, ◌≤◌, min, Bool, true, false, cond, not, ◌&&◌, ◌||◌, eqb, ltb, Some, None, Option, sym, refl, ap, ◌∙◌, subst, ⊎_elim, mod-lt, pow-suc, arith, pow_pos, pow_mono, shr_lt}
 use mathlib.Core.Path.{fun_ext}
 use lib.Bits.{bit_and, bit_or, or_lt, and_le_l}
 use lib.Count.{count_leading_zeros, leading_top}

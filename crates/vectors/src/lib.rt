@@ -1,6 +1,8 @@
 // Task vectors: 64-bit numbers in which task t, from 0 to 63, counts 2 to the power t.
 // What a vector holds is said by the test `in_vector`; the lemmas that tie the code's bit
 // operations to it stand here once, for every layer above.
+#![tactic(auto)]
+
 ghost use Rattle.std.specs.Prelude.{◌≡◌, ◌^◌};
 ghost use Rattle.vectors.specs.Vectors.{in_vector, strays as strays_from, highest as greatest};
 

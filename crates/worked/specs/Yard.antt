@@ -1,5 +1,5 @@
 -- The plan of a small yard: tasks 2, 5 and 7, of which 2 and 5 use resource 0, and no event.
-use Rattle.std.specs.Prelude.{ℕ, zero, suc, ◌≤◌, List, ◌∷◌, replicate, refl}
+use Rattle.std.specs.Prelude.{ℕ, zero, suc, List, ◌∷◌, replicate, refl}
 use Rattle.std.proofs.Common.{arith, lit≤}
 use Rattle.vectors.specs.Vectors.{in_vector, some}
 use Rattle.vectors.proofs.Vectors.{none_strays}

@@ -1,4 +1,6 @@
 // Worked cases, proved jointly on the definitions: a small yard, the table of lowest 1s, and a pair of word sets.
+#![tactic(auto)]
+
 ghost use Rattle.std.specs.Prelude.{◌≡◌, [], ◌∷◌};
 ghost use Rattle.worked.specs.Cases.{WorkedCases};
 

@@ -1,4 +1,4 @@
-use Rattle.std.proofs.Common.{◌≡◌, ℕ, ◌+◌, List, [], ◌∷◌, ◌++◌, take, vec_items, sym, ap, ◌∙◌, subst, ap₂, arith, take_all}
+use Rattle.std.proofs.Common.{◌≡◌, ℕ, List, [], ◌∷◌, ◌++◌, take, vec_items, sym, ap, ◌∙◌, subst, ap₂, arith, take_all}
 use Rattle.machine.specs.declared.Call.{Call}
 use Rattle.machine.specs.Machine.{Machine, Answer, step, answer, fresh, run, answers}
 use Rattle.machine.specs.Laws.{history, paired, Lawful}

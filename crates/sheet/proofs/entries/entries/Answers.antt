@@ -1,4 +1,4 @@
-use Rattle.std.proofs.Common.{◌≡◌, List, [], ◌++◌, vec_items, sym, ap, ◌∙◌, subst, arith}
+use Rattle.std.proofs.Common.{◌≡◌, List, ◌++◌, vec_items, sym, ap, ◌∙◌, subst, arith}
 use Rattle.sheet.specs.declared.entries.Entry.{Entry}
 use Rattle.sheet.specs.Entries.{in_turn, entries_over, entries_of}
 use Rattle.sheet.specs.Tables.{ListsTable}

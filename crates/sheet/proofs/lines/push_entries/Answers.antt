@@ -1,4 +1,4 @@
-use Rattle.std.proofs.Common.{◌≡◌, ◌++◌, take, vec_items, ap, ◌∙◌, take_all}
+use Rattle.std.proofs.Common.{◌++◌, vec_items, ap, ◌∙◌, take_all}
 use Rattle.sheet.specs.Lines.{sheet_lines}
 use Rattle.sheet.proofs.Adding.{lines_next, in_table}
 use Rattle.sheet.proofs.lines.push_entries.Goals as goal

@@ -1,7 +1,7 @@
 use Rattle.std.proofs.Common.{◌≡◌, ℕ, ◌^◌, ◌<◌, ◌++◌, IfOk, vec_items, ap, ◌∙◌, subst, ap₂, arith}
-use Rattle.vectors.proofs.Bits.{shifted, shifted_is}
+use Rattle.vectors.proofs.Bits.{shifted_is}
 use Rattle.machine.specs.declared.Call.TheVariants.{Release, Lock}
-use Rattle.machine.specs.Machine.{Machine, step}
+use Rattle.machine.specs.Machine.{step}
 use Rattle.texts.specs.declared.outcomes.Report.{Report}
 use Rattle.texts.specs.declared.sheets.ShownCall.TheVariants as shown
 use Rattle.texts.specs.Sheets.{sheet_line}

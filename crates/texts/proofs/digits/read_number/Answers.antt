@@ -1,4 +1,4 @@
-use Rattle.std.proofs.Common.{sym, ◌∙◌, arith}
+use Rattle.std.proofs.Common.{arith}
 use Rattle.texts.proofs.Numbers.{number_lt}
 use Rattle.texts.proofs.digits.read_number.Goals as goal
 

@@ -1,4 +1,4 @@
-use Rattle.std.proofs.Common.{sym, arith}
+use Rattle.std.proofs.Common.{sym}
 use native.Mathlib.Nat.{sub-zero}
 use Rattle.texts.proofs.Read.{return_cut, return_none, none_last}
 use Rattle.texts.proofs.records.without_return.Goals as goal

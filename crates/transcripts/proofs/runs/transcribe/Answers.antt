@@ -1,4 +1,4 @@
-use Rattle.std.proofs.Common.{vec_items, refl, arith}
+use Rattle.std.proofs.Common.{refl, arith}
 use Rattle.std.proofs.lemmas.Result.{err_from_is_err_and}
 use Rattle.kernel.specs.Meaning.{meaning}
 use Rattle.transcripts.proofs.Growth.{refused}

@@ -1,4 +1,4 @@
-use Rattle.std.proofs.Common.{◌-◌, sym, arith, rules}
+use Rattle.std.proofs.Common.{sym, arith, rules}
 use Rattle.sets.proofs.TwoLevels.{highest_rows, no_rows}
 use Rattle.sets.proofs.two_level.TwoLevelSetWaitingSet.highest.Goals as goal
 

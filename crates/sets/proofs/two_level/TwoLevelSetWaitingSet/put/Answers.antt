@@ -11,11 +11,13 @@ invariant_of-self c =
     let t = c.args.t in
     let long : row t < length s.rows = search rules in
     let x = c.switched_on.result in
-    let lit : on x (place t) ≡ true = c.switched_on.ensures (place t) ∙ or_left (eqb (place t) (place t)) _ (eq-eqb (place t) (place t) refl) in record { tied = tied_set s.group c.switched_on-self.result s.rows (row t) x true long
+    let lit : on x (place t) ≡ true = c.switched_on.ensures (place t) ∙ or_left (eqb (place t) (place t)) _ (eq-eqb (place t) (place t) refl) in record {
+      tied = tied_set s.group c.switched_on-self.result s.rows (row t) x true long
           (not_from_false (eqb x 0) (on_some x (place t) lit))
           (λ j ne. c.switched_on-self.ensures j ∙ ap (λ b. b || on s.group j) (ne_eqb j (row t) ne))
           (c.switched_on-self.ensures (row t) ∙ or_left (eqb (row t) (row t)) _ (eq-eqb (row t) (row t) refl))
-          s.tied }
+          s.tied;
+    }
 
 pub returns-then-t-lt64 : goal.returns-then-t-lt64
 returns-then-t-lt64 c =

@@ -1,6 +1,5 @@
-use Rattle.std.proofs.Common.{◌+◌, ◌%◌, ◌≤◌, [], length, decimal, ap, arith}
+use Rattle.std.proofs.Common.{◌+◌, ◌%◌, [], length, decimal, ap, arith}
 use Rattle.std.proofs.lemmas.Fmt.{decimal_step, decimal_digit, decimal_nonempty, length-decimal-le}
-use Rattle.texts.specs.Fronts.{text_of}
 use Rattle.texts.proofs.Fronted.{digit_more, length_decimal_step}
 use Rattle.texts.proofs.fronts.Front.put_decimal.Goals as goal
 

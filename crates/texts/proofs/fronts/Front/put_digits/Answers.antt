@@ -1,4 +1,4 @@
-use Rattle.std.proofs.Common.{◌≡◌, ◌-◌, ◌/◌, [], ◌∷◌, ◌++◌, drop, sym, ap, ◌∙◌, arith}
+use Rattle.std.proofs.Common.{◌-◌, ◌/◌, [], ◌∷◌, ◌++◌, drop, sym, ap, ◌∙◌, arith}
 use Rattle.texts.specs.Fronts.{hex}
 use Rattle.texts.proofs.Fronted.{set_before, digit_more, hex_more, hex_none}
 use Rattle.texts.proofs.fronts.Front.put_digits.Goals as goal

@@ -1,4 +1,4 @@
-use Rattle.std.proofs.Common.{◌≡◌, leb, ap, arith}
+use Rattle.std.proofs.Common.{leb, ap, arith}
 use Rattle.std.proofs.lemmas.Bool.{leb-true}
 use Rattle.transcripts.specs.Inputs.{bytes_of}
 use Rattle.transcripts.proofs.Enoughs.{enough}
