@@ -1,5 +1,5 @@
 -- The lists that the arrays of a kernel stand for, with the newest entry first. The structs' own rules cite this file.
-use Rattle.std.specs.Prelude.{ℕ, zero, suc, List, [], ◌∷◌, get_or, None, slice_index, slice_index_or}
+use Rattle.std.specs.Prelude.{ℕ, zero, suc, List, [], ◌∷◌, None, slice_index, slice_index_or}
 use Rattle.kernel.specs.declared.held_lock.HeldLock.{HeldLock}
 
 -- The first n values of a sequence, the last of them first.
@@ -21,7 +21,7 @@ entry_of l = (l.resource, l.holder)
 
 -- The resources of the first n locks.
 abbrev pub resources_of : List HeldLock → ℕ → List ℕ
-resources_of ls n = newest_first (λ i. (get_or ls i no_lock).resource) n
+resources_of ls n = newest_first (λ i. (slice_index_or ls i no_lock).resource) n
 
 -- The resources and holders of the first n locks.
 abbrev pub held_of : List HeldLock → ℕ → List (ℕ × ℕ)

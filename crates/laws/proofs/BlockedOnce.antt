@@ -98,7 +98,7 @@ pub record Blocker (p : Plan) (xs : List (ℕ × ℕ)) (h : History) (t l r : �
 abbrev pub Phase : Plan → List (ℕ × ℕ) → History → ℕ → ℕ → ℕ → Type 0
 Phase p xs h t l r = Free p xs t ⊎ Blocker p xs h t l r
 
--- under plan p, which No-exit
+-- what is known of t from its release to its exit, under plan p
 pub record PhaseOf (p : Plan) (m : Machine) (h : History) (t l r : ℕ) : Type 0 where
   pub inv : Inv m h
   pub goes : unfinished h t ≡ true

@@ -20,7 +20,7 @@ use Rattle.oil.specs.Table.{blank, looked}
 use Rattle.oil.specs.Draft.{Drafted, empty_draft, SoundDraft, used}
 use Rattle.oil.specs.Judging.{judged, lift_plan, proceed, advanced, resume}
 use Rattle.oil.specs.Reading.{Entry, look_up, names_at, gathered, read_all}
-use Rattle.oil.specs.Records.{AllOk, Ready, Goes_on, noted_at, carried, left_by, left_after, left_from}
+use Rattle.oil.specs.Records.{AllOk, Ready, GoesOn, noted_at, carried, left_by, left_after, left_from}
 use Rattle.oil.proofs.Tables.{allok_blank}
 use Rattle.oil.proofs.Ties.{Tied, tied_none, advanced_tied, tied_after}
 
@@ -102,7 +102,7 @@ module _ {text : List ℕ} {goal : Drafted} {left names : List NameRecord} {d : 
   pub going_fault : (f : PlanFault) (after : List NameRecord) → Err f ≡ advanced text (looked names) d s pos → after ≡ noted_at text names d (item_at text s pos) → (Err f ≡ goal) × (after ≡ left)
   going_fault f after is noted = (one (Err f) is, noted ∙ table (Err f) is)
 
-  pub going_more : (e : Draft) (t : State) (q : ℕ) (after : List NameRecord) → Ok (progress.More e t q) ≡ advanced text (looked names) d s pos → Goes_on pos (length text) after (progress.More e t q) → after ≡ noted_at text names d (item_at text s pos) → Going text goal left after e t q
+  pub going_more : (e : Draft) (t : State) (q : ℕ) (after : List NameRecord) → Ok (progress.More e t q) ≡ advanced text (looked names) d s pos → GoesOn pos (length text) after (progress.More e t q) → after ≡ noted_at text names d (item_at text s pos) → Going text goal left after e t q
   going_more e t q after is on noted =
       let f = g.enough in
       let w = g.within in

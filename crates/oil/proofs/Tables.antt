@@ -23,7 +23,7 @@ use Rattle.oil.specs.Faults.{refusal}
 use Rattle.oil.specs.Table.{keyed, no_key, find, blank, as_holds, meant, known_by, looked}
 use Rattle.oil.specs.Draft.{Within, Drafted, Bounded, SoundDraft, next_number, used, grown, with_resources, with_events, with_tasks, with_users, with_registered, prioritized, added}
 use Rattle.oil.specs.Judging.{unless_known, referred_to, referred_by, judged, proceed}
-use Rattle.oil.specs.Records.{AllOk, RecordOk, NumberOk, Ready, entered, noted, Goes_on, ItemIn}
+use Rattle.oil.specs.Records.{AllOk, RecordOk, NumberOk, Ready, entered, noted, GoesOn, ItemIn}
 
 -- the number of a known resource or event is one that is declared
 abbrev KindOk : Draft → Kind → ℕ → Type 0
@@ -197,7 +197,7 @@ judged_ready text names d (item.Refers k t) h = by_ready d names k (looked names
 judged_ready text names d item.Closes h = h
 judged_ready text names d item.End h = cond_both (eqb d.declared 0) _ _ (Same names) (λ _. tt) (λ _. h)
 
-pub goes_on : (text : List ℕ) (i : Item) (s : Step) (d : Draft) (names : List NameRecord) (pos : ℕ) → ItemSits text i pos s.pos → Ready d names → Goes_on pos (length text) names (proceed i d s)
+pub goes_on : (text : List ℕ) (i : Item) (s : Step) (d : Draft) (names : List NameRecord) (pos : ℕ) → ItemSits text i pos s.pos → Ready d names → GoesOn pos (length text) names (proceed i d s)
 goes_on text (item.Declares k t) s d names pos o h = let a = o.0.3 in let b = o.0.4 in let c = o.1 in (omega arith, omega arith, h)
 goes_on text (item.Priority n t) s d names pos o h = let a = o.0.3 in let b = o.0.4 in let c = o.1 in (omega arith, omega arith, h)
 goes_on text (item.Activation n t) s d names pos o h = let a = o.0.3 in let b = o.0.4 in let c = o.1 in (omega arith, omega arith, h)

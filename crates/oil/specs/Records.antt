@@ -95,6 +95,6 @@ pub record Ready (d : Draft) (names : List NameRecord) : Type 0 where
   pub vectors : SoundDraft d
 
 -- The reading goes on further right, with draft and table ready.
-abbrev pub Goes_on : ℕ → ℕ → List NameRecord → Progress → Type 0
-Goes_on pos high names (progress.Done d) = Ready d names
-Goes_on pos high names (progress.More d s p) = (pos < p) × (p ≤ high) × Ready d names
+abbrev pub GoesOn : ℕ → ℕ → List NameRecord → Progress → Type 0
+GoesOn pos high names (progress.Done d) = Ready d names
+GoesOn pos high names (progress.More d s p) = (pos < p) × (p ≤ high) × Ready d names

@@ -4,7 +4,7 @@ ghost use Rattle.grammar.specs.Items.{item_at};
 ghost use Rattle.oil.specs.Table.{blank, looked};
 ghost use Rattle.oil.specs.Draft.{Bounded, SoundDraft};
 ghost use Rattle.oil.specs.Judging.{proceed, advanced};
-ghost use Rattle.oil.specs.Records.{Ready, noted_at, Goes_on, left_after};
+ghost use Rattle.oil.specs.Records.{Ready, noted_at, GoesOn, left_after};
 ghost use Rattle.oil.specs.Reading.{read_all, BoundFree};
 ghost use Rattle.oil.specs.Outcome.{outcome, table_after, PlanAfter};
 ghost use Rattle.oil.specs.Meaning.{Understood};
@@ -49,7 +49,7 @@ fn advance(
     requires { Ready draft names.old }
     ensures value { result ≡ advanced text.now (looked names.old) draft state pos }
     ensures after { names.new ≡ noted_at text.now names.old draft (item_at text.now state pos) }
-    ensures onward { IfOk result (λ p. Goes_on pos (length text.now) names.new p) }
+    ensures onward { IfOk result (λ p. GoesOn pos (length text.now) names.new p) }
 {
     let step = next_item(text, state, pos)?;
     let after = judge(text, names, draft, step.item)?;

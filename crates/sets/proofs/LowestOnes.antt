@@ -7,9 +7,9 @@ use Rattle.vectors.proofs.Bits.{bit, bit_half, bit_first}
 use Rattle.sets.specs.Lowest.{zeros_below, lowest_place}
 use Rattle.sets.proofs.Table.{at}
 
-T_true : (b : Bool) → T b → b ≡ true
-T_true true t = refl
-T_true false t = absurd t
+t_true : (b : Bool) → T b → b ≡ true
+t_true true t = refl
+t_true false t = absurd t
 
 -- the rule as a test: entry n is the place of the lowest 1 of n
 unfoldable pub right : ℕ → ℕ → Bool
@@ -22,7 +22,7 @@ places = 0 ∷ 0 ∷ 1 ∷ 0 ∷ 2 ∷ 0 ∷ 1 ∷ 0 ∷ 3 ∷ 0 ∷ 1 ∷ 0 ∷
 -- it passes the test at each entry, by computation, so it has the rule there
 pub entry_is : (n : ℕ) → n < 256 → get_or places n 0 ≡ lowest_place n
 unfolding right places lowest_place
-entry_is n h = eqb-true (get_or places n 0) (lowest_place n) (T_true (right n (get_or places n 0)) (at right places tt n h))
+entry_is n h = eqb-true (get_or places n 0) (lowest_place n) (t_true (right n (get_or places n 0)) (at right places tt n h))
 
 -- r is a place of the byte n that has a 1, and below it there is none
 pub record Lowest (n r : ℕ) : Type 0 where

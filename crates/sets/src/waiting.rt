@@ -1,5 +1,5 @@
 // What every waiting set does.
-ghost use Rattle.std.specs.Prelude.{◌≡◌, ℕ, ◌<◌, ◌≤◌, Bool, true, false, ltb, if◌then◌else◌, nat_lt};
+ghost use Rattle.std.specs.Prelude.{◌≡◌, ℕ, ◌<◌, ◌≤◌, Bool, true, false, if◌then◌else◌, nat_lt};
 ghost use Rattle.vectors.specs.Vectors.{with, without, highest as greatest};
 
 // A size of at most 64, and a set of numbers below it.
@@ -22,7 +22,7 @@ pub trait WaitingSet {
     fn put(&mut self, t: u8) -> bool
         ensures said { result ≡ nat_lt t (room self.old) }
         ensures kept { room self.new ≡ room self.old }
-        ensures after { holds self.new ≡ (if ltb t (room self.old) then with t (holds self.old) else holds self.old) };
+        ensures after { holds self.new ≡ (if nat_lt t (room self.old) then with t (holds self.old) else holds self.old) };
 
     // Removes t, if it is there, and says yes when t is below the size; otherwise says no.
     fn take(&mut self, t: u8) -> bool
@@ -34,7 +34,9 @@ pub trait WaitingSet {
     fn highest(&self) -> Option<u8>
         ensures { result ≡ greatest (room self.now) (holds self.now) };
 
+    // Law: the size is at most 64.
     ghost small: { (s : Self) → room s ≤ 64 };
 
+    // Law: every member is below the size.
     ghost inside: { (s : Self) (t : ℕ) → holds s t ≡ true → t < room s };
 }

@@ -2,7 +2,7 @@
 ghost use Rattle.std.specs.Prelude.{◌≡◌, ℕ, Bool};
 ghost use Rattle.kernel.specs.Meaning.{meaning};
 ghost use Rattle.texts.specs.Requests.{asked};
-ghost use Rattle.transcripts.specs.Reports.{report_on, report_with as ToldWith, after_record, report_after};
+ghost use Rattle.transcripts.specs.Reports.{report_on, report_with as told_with, after_record, report_after};
 
 use kernel::kernel::Kernel;
 use machine::{Refusal, Reply};
@@ -25,7 +25,7 @@ fn report<R: WaitingSet>(kernel: &Kernel<R>, outcome: Outcome, mark: Option<bool
 
 // What a kernel tells after a call that it gave this answer.
 pub fn report_with<R: WaitingSet>(kernel: &Kernel<R>, answer: Result<Reply, Refusal>) -> Report
-    ensures { result ≡ ToldWith answer (meaning R.room R.holds kernel.now) }
+    ensures { result ≡ told_with answer (meaning R.room R.holds kernel.now) }
 {
     match answer {
         Ok(reply) => report(kernel, Outcome::Accepted, reply.mark),

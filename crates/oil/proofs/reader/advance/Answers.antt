@@ -1,7 +1,7 @@
 use Rattle.std.proofs.Common.{length, sym, subst, rules}
 use Rattle.grammar.proofs.Sits.{item_sits}
 use Rattle.oil.specs.Judging.{proceed}
-use Rattle.oil.specs.Records.{Goes_on, noted}
+use Rattle.oil.specs.Records.{GoesOn, noted}
 use Rattle.oil.proofs.Tables.{goes_on, item_in, judged_ok}
 use Rattle.oil.proofs.reader.advance.Goals as goal
 
@@ -25,7 +25,7 @@ returns c =
       value = search rules;
       after = search rules;
       onward =
-          subst (λ p. Goes_on c.args.pos (length text) c.judge.new.names p) (sym c.carry_on.ensures)
-          (subst (λ ns. Goes_on c.args.pos (length text) ns (proceed st.item e st)) (sym said.after)
+          subst (λ p. GoesOn c.args.pos (length text) c.judge.new.names p) (sym c.carry_on.ensures)
+          (subst (λ ns. GoesOn c.args.pos (length text) ns (proceed st.item e st)) (sym said.after)
           (goes_on text st.item st e (noted text names c.args.draft st.item) c.args.pos sits ready));
     }
