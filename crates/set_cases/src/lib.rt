@@ -7,7 +7,6 @@ mod tests {
     use sets::two_level::TwoLevelSet;
     use sets::waiting::WaitingSet;
     use sets::word::WordSet;
-    use std::process::Abort;
 
     // A wish of at most 64 is granted, and a larger one gives 64.
     #[test]
@@ -21,39 +20,37 @@ mod tests {
         }
     }
 
-    // Puts the lowest and the highest number, asks for both, takes the highest, and tries one past the end.
-    fn exercise<R: WaitingSet + Drop>(rt: &impl Abort, mut set: R, top: u8) {
-        assert_eq!(rt; set.size(), top.saturating_add(1));
-        assert!(rt; set.put(0));
-        assert!(rt; set.put(top));
-        assert!(rt; !set.put(top.saturating_add(1)));
-        assert!(rt; set.has(0));
-        assert_eq!(rt; set.highest(), Some(top));
-        assert!(rt; set.take(top));
-        assert!(rt; !set.take(top.saturating_add(1)));
-        assert_eq!(rt; set.highest(), Some(0));
-        assert!(rt; set.take(0));
-        assert_eq!(rt; set.highest(), None);
+    // Puts the lowest and the highest number, asks for both, takes the highest, and tries one past the end: whether the
+    // set answers each step as it must.
+    fn exercise<R: WaitingSet + Drop>(mut set: R, top: u8) -> bool {
+        set.size() == top.saturating_add(1)
+            && set.put(0)
+            && set.put(top)
+            && !set.put(top.saturating_add(1))
+            && set.has(0)
+            && set.highest() == Some(top)
+            && set.take(top)
+            && !set.take(top.saturating_add(1))
+            && set.highest() == Some(0)
+            && set.take(0)
+            && set.highest() == None
     }
 
     #[test]
     fn every_make(rt: HostRuntime) {
-        exercise(&rt, WordSet::new(64), 63);
-        exercise(&rt, WordSet::new(2), 1);
-        exercise(&rt, TwoLevelSet::new(), 63);
-        exercise(&rt, Pair::new(WordSet::new(40), WordSet::new(24)), 63);
-        exercise(
-            &rt,
-            Pair::new(Pair::new(WordSet::new(3), WordSet::new(4)), WordSet::new(5)),
-            11,
-        );
+        assert!(rt; exercise(WordSet::new(64), 63));
+        assert!(rt; exercise(WordSet::new(2), 1));
+        assert!(rt; exercise(TwoLevelSet::new(), 63));
+        assert!(rt; exercise(Pair::new(WordSet::new(40), WordSet::new(24)), 63));
+        let nested = Pair::new(Pair::new(WordSet::new(3), WordSet::new(4)), WordSet::new(5));
+        assert!(rt; exercise(nested, 11));
     }
 
     // Sizes that add to more than 64 leave the first set alone.
     #[test]
     fn pairs_at_64(rt: HostRuntime) {
-        exercise(&rt, Pair::new(WordSet::new(40), WordSet::new(25)), 39);
-        exercise(&rt, Pair::new(TwoLevelSet::new(), WordSet::new(1)), 63);
+        assert!(rt; exercise(Pair::new(WordSet::new(40), WordSet::new(25)), 39));
+        assert!(rt; exercise(Pair::new(TwoLevelSet::new(), WordSet::new(1)), 63));
         assert_eq!(rt; Pair::new(WordSet::new(40), WordSet::new(24)).size(), 64);
     }
 }
