@@ -2,6 +2,7 @@
 // Its type carries the rule that only declared tasks are named, so that no reader of a plan tests it again.
 #![tactic(auto)]
 
+pub mod entry;
 pub mod parts;
 pub mod questions;
 pub mod record;
