@@ -2,12 +2,12 @@
 use Rattle.std.proofs.Common.{◌≡◌, ℕ, zero, suc, ◌+◌, ◌-◌, ◌*◌, ◌/◌, ◌%◌, ◌^◌, ◌<◌, ◌≤◌, min, Bool, true, false, cond, not, ◌&&◌, ◌||◌, eqb, ltb, Some, None, Option, sym, refl, ap, ◌∙◌, subst, ⊎_elim, mod-lt, pow-suc, arith, pow_pos, pow_mono, shr_lt}
 use mathlib.Core.Path.{fun_ext}
 use lib.Bits.{bit_and, bit_or, or_lt, and_le_l}
-use lib.Count.{count_leading_zeros, leading_top}
+use lib.Count.{leading_top}
 use lib.Pow.{pow-lt, split}
 use Rattle.std.proofs.lemmas.Bool.{cases_eq, cases_lt, lt-ltb, le-ltb, eq-eqb, ne_eqb, and_parts, ltb-true, eqb-true, eqb-false, cases_Bool, cases_order, both_ways, cond-true, cond-false, or_parts, or_from, not-false, not-true, or_cases, false≢true}
 use Rattle.std.proofs.lemmas.Bool.Decides.{nat_tests}
 use Rattle.vectors.specs.Vectors.{on, in_vector, vector_of, with, without, highest, some, strays}
-use Rattle.vectors.proofs.Bits.{bit, bit_mod, in_bit_and, bit_not, bit_zero, bit_above, bit_top, bit_half, bit_first, on_or, on_test, shifted, shifted_is, switch_on, switch_off_low}
+use Rattle.vectors.proofs.Bits.{bit, bit_mod, in_bit_and, bit_not, bit_zero, bit_above, bit_top, bit_half, bit_first, on_or, shifted, shifted_is, switch_on, switch_off_low}
 
 -- a change of one number in a set of numbers below n: f says what becomes of it, by whether a number is t and whether it was there
 pub changed_below : (n t : ℕ) (f : Bool → Bool → Bool) (a b : ℕ → Bool) → ((o : Bool) → f false o ≡ o) → t < n
@@ -21,9 +21,6 @@ changed_below n t f a b none h e = fun_ext (λ k. ⊎_elim
 
 pub in_none : (t : ℕ) → in_vector 0 t ≡ false
 in_none t = let e = bit_zero t in grind (arith, nat_tests)
-
-pub in_test : (v t : ℕ) → t < 64 → eqb (bit_and (v / 2 ^ t) 1) 1 ≡ in_vector v t
-in_test v t h = on_test v t ∙ ap (λ b. b && on v t) (sym (lt-ltb t 64 h))
 
 pub in_below : (v c t : ℕ) → v < 2 ^ c → in_vector v t ≡ true → t < c
 in_below v c t h e = ⊎_elim (λ l. l) (λ l. let z = bit_above v c t h l in grind (arith, nat_tests)) (cases_lt t c)
@@ -45,16 +42,14 @@ highest_is (suc n) j m l e h = ⊎_elim
 pub highest_empty : (c : ℕ) → highest c (in_vector 0) ≡ None
 highest_empty c = highest_none c (in_vector 0) (λ k l. in_none k)
 
-pub highest_word : (v c : ℕ) → c ≤ 64 → 0 < v → v < 2 ^ c → highest c (in_vector v) ≡ Some (63 - count_leading_zeros 64 v)
-highest_word v c s p h =
+-- the greatest power of 2 that is not above a vector of c bits shows its highest task
+pub highest_power : (v c j : ℕ) → v < 2 ^ c → c ≤ 64 → 2 ^ j ≤ v → v < 2 ^ suc j → highest c (in_vector v) ≡ Some j
+highest_power v c j h s low up =
     let big : v < 2 ^ 64 = omega (arith, pow_mono s) in
-    let top = leading_top 64 v p big in
-    let j = top.0 in
-    let one : bit v j ≡ 1 = bit_top v j top.2 top.3 in
-    let small : j < 64 = omega (arith, top.1) in
+    let one : bit v j ≡ 1 = bit_top v j low up in
+    let small : j < 64 = ⊎_elim (λ (l : j < 64). l) (λ (l : 64 ≤ j). absurd (omega (arith, pow_mono l))) (cases_lt j 64) in
     let here : in_vector v j ≡ true = grind (arith, nat_tests) in
-    let low : j < c = in_below v c j h here in
-    highest_is c j (in_vector v) low here (λ k a b. let z : bit v k ≡ 0 = bit_above v (suc j) k top.3 a in grind (arith, nat_tests)) ∙ ap Some (omega (arith, top.1))
+    highest_is c j (in_vector v) (in_below v c j h here) here (λ k a b. let z : bit v k ≡ 0 = bit_above v (suc j) k up a in grind (arith, nat_tests))
 
 -- `word | (1 << t)` and `word & !(1 << t)`
 
@@ -245,5 +240,8 @@ vector_tells v m h e = vector_is 64 v m h (λ k l. sym (ap (λ b. b && on v k) (
 pub highest_fits : (v c : ℕ) → c ≤ 64 → v < 2 ^ c → highest c (in_vector v) ≡ highest 64 (in_vector v)
 highest_fits v c s h = ⊎_elim
     (λ (z : v ≡ 0). ap (λ x. highest c (in_vector x)) z ∙ highest_empty c ∙ sym (ap (λ x. highest 64 (in_vector x)) z ∙ highest_empty 64))
-    (λ (ne : v ≡ 0 → ⊥). let p : 0 < v = omega arith in highest_word v c s p h ∙ sym (highest_word v 64 (omega arith) p (omega (arith, pow_mono s))))
+    (λ (ne : v ≡ 0 → ⊥).
+    let big : v < 2 ^ 64 = omega (arith, pow_mono s) in
+    let top = leading_top 64 v (omega arith) big in
+    highest_power v c top.0 h s top.2 top.3 ∙ sym (highest_power v 64 top.0 big (omega arith) top.2 top.3))
     (cases_eq v 0)

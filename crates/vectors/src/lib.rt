@@ -17,11 +17,7 @@ pub fn contains(v: u64, t: u8) -> bool
 pub fn highest(v: u64) -> Option<u8>
     ensures { result ≡ greatest 64 (in_vector v) }
 {
-    if v == 0 {
-        None
-    } else {
-        Some((63 - v.leading_zeros()) as u8)
-    }
+    v.checked_ilog2().map(|top| top as u8)
 }
 
 // Whether the vector v holds a task that the vector w lacks.
