@@ -1,26 +1,29 @@
 // Plans made without a text: the unfilled record, and a plan from its vectors.
 ghost use Rattle.std.specs.Prelude.{◌≡◌, ℕ, ◌≤◌, [], length, MatchOption};
+ghost use Rattle.std.specs.List.{list_any};
+ghost use Rattle.vectors.specs.Vectors.{in_vector, strays as strays_from};
 ghost use Rattle.plan.specs.Rows.{Inside, SameRows};
 ghost use Rattle.plan.specs.Parts.{Fits, MadeOf};
 
 use crate::record::Plan;
 use vectors::strays;
 
+// Whether some row names a task outside w.
+fn any_strays(rows: &[u64], w: u64) -> bool
+    ensures { result ≡ list_any (λ row. strays_from row (in_vector w)) rows.now }
+{
+    rows.iter().any(|row| strays(*row, w))
+}
+
 // The rows in an array, filled up with empty ones; none where they are more than 32 or one strays from w.
 fn filled(rows: &[u64], w: u64) -> Option<[u64; 32]>
     ensures { MatchOption result ((length rows.now ≤ 32) × Inside rows.now w → ⊥) (λ a. (length rows.now ≤ 32) × SameRows a rows.now × Inside a w) }
 {
-    if rows.len() > 32 {
+    if rows.len() > 32 || any_strays(rows, w) {
         return None;
     }
     let mut table = [0; 32];
-    for i in 0..rows.len() {
-        let row = rows[i];
-        if strays(row, w) {
-            return None;
-        }
-        table[i] = row;
-    }
+    table[..rows.len()].copy_from_slice(rows);
     Some(table)
 }
 
@@ -43,12 +46,8 @@ impl Plan {
     pub fn new(declared: u64, users: &[u64], registered: &[u64]) -> Option<Plan>
         ensures { MatchOption result (Fits declared users.now registered.now → ⊥) (λ p. MadeOf declared users.now registered.now p) }
     {
-        let Some(user_rows) = filled(users, declared) else {
-            return None;
-        };
-        let Some(registered_rows) = filled(registered, declared) else {
-            return None;
-        };
+        let user_rows = filled(users, declared)?;
+        let registered_rows = filled(registered, declared)?;
         Some(Plan {
             declared,
             resources: users.len() as u8,

@@ -5,27 +5,26 @@ ghost use Rattle.plan.specs.Plans.{ceiling as top_user, may_hold_up};
 use crate::record::Plan;
 use vectors::{contains, highest};
 
+// Row n, which is empty past the end.
+fn row(rows: &[u64; 32], n: u16) -> u64
+    ensures { result ≡ slice_index rows.now n }
+{
+    rows.get(usize::from(n)).copied().unwrap_or(0)
+}
+
 impl Plan {
     // The tasks that may lock resource r.
     pub fn users_of(&self, r: u16) -> u64
         ensures { result ≡ slice_index self.now.users r }
     {
-        if r < self.resources as u16 {
-            self.users[r as usize]
-        } else {
-            0
-        }
+        row(&self.users, r)
     }
 
     // The tasks registered for event e.
     pub fn registered_for(&self, e: u16) -> u64
         ensures { result ≡ slice_index self.now.registered e }
     {
-        if e < self.events as u16 {
-            self.registered[e as usize]
-        } else {
-            0
-        }
+        row(&self.registered, e)
     }
 
     // The ceiling of resource r: its highest user.
