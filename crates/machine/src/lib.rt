@@ -39,53 +39,40 @@ pub struct Reply {
     pub mark: Option<bool>,
 }
 
-// Why a call is turned down. The kernel is then as it was.
+// Why a call is turned down, each with the number by which lines and records name it. The kernel is then as it was.
 #[derive(Clone, Copy, PartialEq, Debug)]
 pub enum Refusal {
     // The set's size is not above the plan's highest task.
-    SetTooSmall,
+    SetTooSmall = 10,
     // A task waits in the set before a plan is installed.
-    SetNotEmpty,
+    SetNotEmpty = 11,
     // The kernel has a plan.
-    AlreadyInstalled,
+    AlreadyInstalled = 12,
     // The offered plan declares no task.
-    NoTaskDeclared,
+    NoTaskDeclared = 13,
     // The vector holds a task that is not declared, or for a signal not registered.
-    ForeignTask,
+    ForeignTask = 14,
     // No task runs.
-    NoTaskRuns,
+    NoTaskRuns = 15,
     // The resource or event number is not declared.
-    NotDeclared,
+    NotDeclared = 16,
     // The running task is no user of the resource, or not registered for the event.
-    NotEntitled,
+    NotEntitled = 17,
     // The resource is already held.
-    AlreadyHeld,
+    AlreadyHeld = 18,
     // The resource is not held by the running task.
-    NotHolder,
+    NotHolder = 19,
     // A later lock is still held.
-    LaterLockHeld,
+    LaterLockHeld = 20,
     // The running task holds a resource at its exit.
-    StillHolding,
+    StillHolding = 21,
 }
 
 impl Refusal {
-    // The number by which lines and records name the refusal.
+    // The number of the refusal.
     pub fn number(self) -> u8
         ensures { result ≡ refusal_number self }
     {
-        match self {
-            Refusal::SetTooSmall => 10,
-            Refusal::SetNotEmpty => 11,
-            Refusal::AlreadyInstalled => 12,
-            Refusal::NoTaskDeclared => 13,
-            Refusal::ForeignTask => 14,
-            Refusal::NoTaskRuns => 15,
-            Refusal::NotDeclared => 16,
-            Refusal::NotEntitled => 17,
-            Refusal::AlreadyHeld => 18,
-            Refusal::NotHolder => 19,
-            Refusal::LaterLockHeld => 20,
-            Refusal::StillHolding => 21,
-        }
+        self as u8
     }
 }
