@@ -1,4 +1,3 @@
-pub mod Table
 pub mod LowestOnes
 pub mod TwoLevels
 pub mod Pairing

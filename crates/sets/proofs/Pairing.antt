@@ -1,6 +1,6 @@
 -- The highest of two sets, the second above the first.
-use Rattle.std.proofs.Common.{◌≡◌, ℕ, zero, suc, ◌+◌, ◌-◌, ◌<◌, ◌≤◌, Bool, false, cond, ltb, leb, Some, None, refl, ap, ◌∙◌, add-zero, add-suc, arith}
-use Rattle.std.proofs.lemmas.Bool.{lt-ltb, le-ltb, le-leb, cond-true, cond-false}
+use Rattle.std.proofs.Common.{◌≡◌, ℕ, zero, suc, ◌+◌, ◌-◌, ◌<◌, ◌≤◌, Bool, true, false, cond, ltb, leb, Some, None, refl, ap, ◌∙◌, add-zero, add-suc, arith}
+use Rattle.std.proofs.lemmas.Bool.{leb-true, lt-ltb, le-ltb, le-leb, cond-true, cond-false}
 use Rattle.vectors.specs.Vectors.{highest}
 use Rattle.vectors.proofs.Vectors.{highest_tells, highest_is, highest_empties, none_above}
 use Rattle.sets.specs.Pairs.{pair_room, pair_holds}
@@ -14,6 +14,13 @@ highest_skip : (a n : ℕ) (m : ℕ → Bool) → ((k : ℕ) → a ≤ k → k <
 unfolding highest
 highest_skip a zero m h = ap (λ k. highest k m) (add-zero a)
 highest_skip a (suc n) m h = ap (λ k. highest k m) (add-suc a n) ∙ cond-false (m (a + n)) (Some (a + n)) (highest (a + n) m) (h (a + n) (omega arith) (omega arith)) ∙ highest_skip a n m (λ k l u. h k l (omega arith))
+
+pub joint : (a b k : ℕ) → Some k ≡ cond (leb (a + b) 64) (Some a) None → (a + b ≤ 64) × (k ≡ a)
+joint a b k e = go (leb (a + b) 64) refl e
+  where
+    go : (t : Bool) → leb (a + b) 64 ≡ t → Some k ≡ cond t (Some a) None → (a + b ≤ 64) × (k ≡ a)
+    go true is h = (leb-true (a + b) 64 is, grind arith)
+    go false is h = absurd (grind arith)
 
 module _ (a b : ℕ) (f g : ℕ → Bool) (fits : a + b ≤ 64) where
   low : (k : ℕ) → k < a → pair_holds a b f g k ≡ f k

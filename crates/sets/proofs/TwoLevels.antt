@@ -13,23 +13,25 @@ use Rattle.sets.proofs.LowestOnes.{Lowest, lowest_holds, below_lowest}
 pub on_some : (x k : ℕ) → on x k ≡ true → eqb x 0 ≡ false
 on_some x k e = ne_eqb x 0 (λ q. let z : bit x k ≡ 0 = ap (λ n. bit n k) q ∙ bit_zero k in omega (arith, eqb-true (bit x k) 1 e))
 
--- one row written: what becomes of its bits becomes of the tasks that lie there
-pub rows_changed : (f : Bool → Bool → Bool) (rs : List ℕ) (t x : ℕ) → ((o : Bool) → f false o ≡ o) → t < 64 → length rs ≡ 8
-    → ((k : ℕ) → on x k ≡ f (eqb k (place t)) (on (get_or rs (row t) 0) k)) → in_rows (set rs (row t) x) ≡ (λ k. f (eqb k t) (in_rows rs k))
-rows_changed f rs t x none h long e =
-    changed_below 64 t f (λ k. on (get_or (set rs (row t) x) (row k) 0) (place k)) (λ k. on (get_or rs (row k) 0) (place k)) none h
+-- row i written, where bit b is that of task t: what becomes of the row's bits becomes of the tasks that lie there
+pub rows_changed : (f : Bool → Bool → Bool) (rs : List ℕ) (t i b x : ℕ) → ((o : Bool) → f false o ≡ o) → t < 64 → length rs ≡ 8 → ◌≡◌ {A = ℕ × ℕ} (i, b) (row t, place t)
+    → ((k : ℕ) → on x k ≡ f (eqb k b) (on (get_or rs i 0) k)) → in_rows (set rs i x) ≡ (λ k. f (eqb k t) (in_rows rs k))
+rows_changed f rs t i b x none h long there e =
+    let ei : i ≡ row t = ap (λ p. p.0) there in
+    let eb : b ≡ place t = ap (λ p. p.1) there in
+    changed_below 64 t f (λ k. on (get_or (set rs i x) (row k) 0) (place k)) (λ k. on (get_or rs (row k) 0) (place k)) none h
     (λ k l. ⊎_elim
-    (λ (q : row k ≡ row t).
-    let inside : row t < length rs = omega arith in
-    let s : get_or (set rs (row t) x) (row k) 0 ≡ x = ap (λ j. get_or (set rs (row t) x) j 0) q ∙ rw get_or-set_same in
-    let same : eqb (place k) (place t) ≡ eqb k t = grind (arith, nat_tests) in
-    ap (λ y. on y (place k)) s ∙ e (place k) ∙ ap (λ j. f (eqb (place k) (place t)) (on (get_or rs j 0) (place k))) (sym q)
-    ∙ ap (λ b. f b (on (get_or rs (row k) 0) (place k))) same)
-    (λ (ne : row k ≢ row t).
-    let s : get_or (set rs (row t) x) (row k) 0 ≡ get_or rs (row k) 0 = rw get_or-set_other in
-    let apart : eqb k t ≡ false = ne_eqb k t (λ q. ne (ap row q)) in
-    ap (λ y. on y (place k)) s ∙ sym (ap (λ b. f b (on (get_or rs (row k) 0) (place k))) apart ∙ none (on (get_or rs (row k) 0) (place k))))
-    (cases_eq (row k) (row t)))
+    (λ (q : row k ≡ i).
+    let inside : i < length rs = omega arith in
+    let s : get_or (set rs i x) (row k) 0 ≡ x = ap (λ j. get_or (set rs i x) j 0) q ∙ rw get_or-set_same in
+    let same : eqb (place k) b ≡ eqb k t = grind (arith, nat_tests) in
+    ap (λ y. on y (place k)) s ∙ e (place k) ∙ ap (λ j. f (eqb (place k) b) (on (get_or rs j 0) (place k))) (sym q)
+    ∙ ap (λ z. f z (on (get_or rs (row k) 0) (place k))) same)
+    (λ (ne : row k ≢ i).
+    let s : get_or (set rs i x) (row k) 0 ≡ get_or rs (row k) 0 = rw get_or-set_other in
+    let apart : eqb k t ≡ false = ne_eqb k t (λ q. ne (ap row q ∙ sym ei)) in
+    ap (λ y. on y (place k)) s ∙ sym (ap (λ z. f z (on (get_or rs (row k) 0) (place k))) apart ∙ none (on (get_or rs (row k) 0) (place k))))
+    (cases_eq (row k) i))
 
 -- a group byte that is tied to its rows
 abbrev pub Tied : ℕ → List ℕ → Type 0

@@ -1,14 +1,6 @@
-// One bit of a byte.
+// One bit of a byte switched.
 ghost use Rattle.std.specs.Prelude.{◌≡◌, ℕ, ◌<◌, ◌≤◌, not, ◌&&◌, ◌||◌, ◌==◌};
 ghost use Rattle.vectors.specs.Vectors.{on};
-
-// Whether bit k of x is 1.
-pub(crate) fn is_on(x: u8, k: u8) -> bool
-    requires { k < 8 }
-    ensures { result ≡ on x k }
-{
-    (x >> k) & 1 == 1
-}
 
 // The byte x with bit k at 1.
 pub(crate) fn switched_on(x: u8, k: u8) -> u8

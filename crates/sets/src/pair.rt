@@ -1,6 +1,6 @@
 // Two waiting sets of any make as one: where their sizes a and b add to at most 64, numbers below a lie in the first
 // and a + x lies as x in the second; otherwise the pair is the first set alone.
-ghost use Rattle.std.specs.Prelude.{◌≡◌, ℕ, ◌+◌, Bool, nat_le};
+ghost use Rattle.std.specs.Prelude.{◌≡◌, ℕ, ◌+◌, ◌-◌, Bool, ◌&&◌, cond, Some, None, nat_le};
 ghost use Rattle.sets.specs.Pairs.{pair_room, pair_holds};
 ghost use Rattle.std.proofs.Common.{rules};
 
@@ -21,11 +21,19 @@ impl<A: WaitingSet, B: WaitingSet> Pair<A, B> {
         Pair { first, second }
     }
 
-    // Whether the sizes add to at most 64.
-    fn joint(&self) -> bool
-        ensures { result ≡ nat_le (A.WaitingSet.room self.now.first + B.WaitingSet.room self.now.second) 64 }
+    // Where the numbers of the second set begin, if the sizes add to at most 64.
+    fn offset(&self) -> Option<u8>
+        ensures { result ≡ cond (nat_le (A.WaitingSet.room self.now.first + B.WaitingSet.room self.now.second) 64) (Some (A.WaitingSet.room self.now.first)) None }
     {
-        self.first.size() + self.second.size() <= 64
+        let a = self.first.size();
+        (a + self.second.size() <= 64).then_some(a)
+    }
+
+    // The number of t in the second set, if it lies there; else it lies in the first under its own number.
+    fn in_second(&self, t: u8) -> Option<u8>
+        ensures { result ≡ cond (nat_le (A.WaitingSet.room self.now.first + B.WaitingSet.room self.now.second) 64 && nat_le (A.WaitingSet.room self.now.first) t) (Some (t - A.WaitingSet.room self.now.first)) None }
+    {
+        t.checked_sub(self.offset()?)
     }
 }
 
@@ -39,60 +47,39 @@ impl<A: WaitingSet, B: WaitingSet> WaitingSet for Pair<A, B> {
     ghost inside = { Prim.search rules };
 
     fn size(&self) -> u8 {
-        if self.joint() {
-            self.first.size() + self.second.size()
-        } else {
-            self.first.size()
-        }
+        self.offset()
+            .map_or(self.first.size(), |a| a + self.second.size())
     }
 
     fn has(&self, t: u8) -> bool {
-        if self.joint() {
-            let a = self.first.size();
-            if t < a {
-                self.first.has(t)
-            } else {
-                self.second.has(t - a)
-            }
-        } else {
-            self.first.has(t)
+        match self.in_second(t) {
+            Some(x) => self.second.has(x),
+            None => self.first.has(t),
         }
     }
 
     fn put(&mut self, t: u8) -> bool {
-        if self.joint() {
-            let a = self.first.size();
-            if t < a {
-                self.first.put(t)
-            } else {
-                self.second.put(t - a)
-            }
-        } else {
-            self.first.put(t)
+        match self.in_second(t) {
+            Some(x) => self.second.put(x),
+            None => self.first.put(t),
         }
     }
 
     fn take(&mut self, t: u8) -> bool {
-        if self.joint() {
-            let a = self.first.size();
-            if t < a {
-                self.first.take(t)
-            } else {
-                self.second.take(t - a)
-            }
-        } else {
-            self.first.take(t)
+        match self.in_second(t) {
+            Some(x) => self.second.take(x),
+            None => self.first.take(t),
         }
     }
 
     fn highest(&self) -> Option<u8> {
-        if self.joint() {
-            match self.second.highest() {
-                Some(x) => Some(self.first.size() + x),
-                None => self.first.highest(),
-            }
-        } else {
-            self.first.highest()
+        let Some(a) = self.offset() else {
+            return self.first.highest();
+        };
+        // A match, and no `map` with `or_else`: it shows that the first set's answer is passed on as it is.
+        match self.second.highest() {
+            Some(x) => Some(a + x),
+            None => self.first.highest(),
         }
     }
 }

@@ -1,14 +1,15 @@
 // A waiting set of size 64 in two levels: eight rows of eight bits, and a group byte whose bit i is 1 exactly when
 // row i is not zero. Position 0 is the most urgent, so that task t lies at position 63 - t, in row position / 8 at
 // bit position mod 8, and the highest task is found by the lowest 1 of the group and of that row.
-ghost use Rattle.std.specs.Prelude.{◌≡◌, ℕ, ◌<◌, Bool, not, ◌==◌, slice_index};
+ghost use Rattle.std.specs.Prelude.{◌≡◌, ℕ, ◌<◌, Bool, not, ◌==◌, slice_index, SomeIff};
 ghost use Rattle.vectors.specs.Vectors.{on};
-ghost use Rattle.sets.specs.Rows.{in_rows};
+ghost use Rattle.sets.specs.Rows.{row as row_of, place as bit_of, in_rows};
 ghost use Rattle.std.proofs.Common.{rules};
 
-use crate::bits::{is_on, switched_off, switched_on};
+use crate::bits::{switched_off, switched_on};
 use crate::lowest::lowest_one;
 use crate::waiting::WaitingSet;
+use vectors::contains;
 
 #[derive(Clone, Copy)]
 pub struct TwoLevelSet {
@@ -30,6 +31,14 @@ impl TwoLevelSet {
     }
 }
 
+// The row of task t and its bit there, if t is below 64.
+fn place(t: u8) -> Option<(u8, u8)>
+    ensures { SomeIff result (t < 64) (row_of t, bit_of t) }
+{
+    let position = 63u8.checked_sub(t)?;
+    Some((position / 8, position % 8))
+}
+
 impl WaitingSet for TwoLevelSet {
     ghost room = { λ s. 64 };
 
@@ -44,41 +53,29 @@ impl WaitingSet for TwoLevelSet {
     }
 
     fn has(&self, t: u8) -> bool {
-        if t < 64 {
-            let position = 63 - t;
-            let row = (position / 8) as usize;
-            is_on(self.rows[row], position % 8)
-        } else {
-            false
-        }
+        place(t).is_some_and(|(row, bit)| contains(u64::from(self.rows[row as usize]), bit))
     }
 
     fn put(&mut self, t: u8) -> bool {
-        if t < 64 {
-            let position = 63 - t;
-            let row = position / 8;
-            self.rows[row as usize] = switched_on(self.rows[row as usize], position % 8);
-            self.group = switched_on(self.group, row);
-            true
-        } else {
-            false
-        }
+        let Some((row, bit)) = place(t) else {
+            return false;
+        };
+        self.rows[row as usize] = switched_on(self.rows[row as usize], bit);
+        self.group = switched_on(self.group, row);
+        true
     }
 
     fn take(&mut self, t: u8) -> bool {
-        if t < 64 {
-            let position = 63 - t;
-            let row = position / 8;
-            let left = switched_off(self.rows[row as usize], position % 8);
-            self.rows[row as usize] = left;
-            let emptied = left == 0;
-            if emptied {
-                self.group = switched_off(self.group, row);
-            }
-            true
-        } else {
-            false
+        let Some((row, bit)) = place(t) else {
+            return false;
+        };
+        let left = switched_off(self.rows[row as usize], bit);
+        self.rows[row as usize] = left;
+        let emptied = left == 0;
+        if emptied {
+            self.group = switched_off(self.group, row);
         }
+        true
     }
 
     fn highest(&self) -> Option<u8> {
@@ -86,8 +83,8 @@ impl WaitingSet for TwoLevelSet {
             None
         } else {
             let row = lowest_one(self.group);
-            let place = lowest_one(self.rows[row as usize]);
-            Some(63 - (row * 8 + place))
+            let bit = lowest_one(self.rows[row as usize]);
+            Some(63 - (row * 8 + bit))
         }
     }
 }

@@ -20,8 +20,10 @@ impl WordSet {
         ensures size { result.size ≡ min wish 64 }
         ensures empty { result.word ≡ 0 }
     {
-        let size = if wish <= 64 { wish } else { 64 };
-        WordSet { word: 0, size }
+        WordSet {
+            word: 0,
+            size: wish.min(64),
+        }
     }
 }
 
@@ -43,21 +45,19 @@ impl WaitingSet for WordSet {
     }
 
     fn put(&mut self, t: u8) -> bool {
-        if t < self.size {
-            self.word |= 1 << t;
-            true
-        } else {
-            false
+        if t >= self.size {
+            return false;
         }
+        self.word |= 1 << t;
+        true
     }
 
     fn take(&mut self, t: u8) -> bool {
-        if t < self.size {
-            self.word &= !(1 << t);
-            true
-        } else {
-            false
+        if t >= self.size {
+            return false;
         }
+        self.word &= !(1 << t);
+        true
     }
 
     // The most significant set bit.

@@ -8,4 +8,4 @@ returns-then-self-eq0 c = let s = c.args.self.now in sym (no_rows s.group s.rows
 pub returns-else-self-eq0 : goal.returns-else-self-eq0
 returns-else-self-eq0 c =
     let s = c.args.self.now in
-    sym (highest_rows s.group c.lowest_one-row.result c.lowest_one-place.result s.rows s.tied (omega arith) (omega arith) (search rules) c.lowest_one-row.ensures.value c.lowest_one-place.ensures.value).2
+    sym (highest_rows s.group c.lowest_one-row.result c.lowest_one-bit.result s.rows s.tied (omega arith) (omega arith) (search rules) c.lowest_one-row.ensures.value c.lowest_one-bit.ensures.value).2
