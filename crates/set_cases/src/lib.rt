@@ -11,11 +11,10 @@ mod tests {
     // A wish of at most 64 is granted, and a larger one gives 64.
     #[test]
     fn word_sizes(rt: HostRuntime) {
-        let wishes = [0u8, 1, 63, 64, 65, 255];
-        let sizes = [0u8, 1, 63, 64, 64, 64];
-        for i in 0..6 {
-            let set = WordSet::new(wishes[i]);
-            assert_eq!(rt; set.size(), sizes[i]);
+        let cases = [(0, 0), (1, 1), (63, 63), (64, 64), (65, 64), (255, 64)];
+        for (wish, size) in cases {
+            let set = WordSet::new(wish);
+            assert_eq!(rt; set.size(), size);
             assert_eq!(rt; set.highest(), None);
         }
     }
@@ -33,7 +32,7 @@ mod tests {
             && !set.take(top.saturating_add(1))
             && set.highest() == Some(0)
             && set.take(0)
-            && set.highest() == None
+            && set.highest().is_none()
     }
 
     #[test]
