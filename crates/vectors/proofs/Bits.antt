@@ -1,49 +1,21 @@
--- One bit of a number, and what `|`, `&`, `!` and `<<` do to it, over any width.
-use Rattle.std.proofs.Common.{◌≡◌, ℕ, zero, suc, ◌+◌, ◌-◌, ◌*◌, ◌/◌, ◌%◌, ◌^◌, ◌<◌, ◌≤◌, min, max, Bool, true, false, not, ◌&&◌, ◌||◌, eqb, sym, refl, ap, ◌∙◌, ⊎_elim, pow-suc, div-one, arith, pow_pos, pow_mono, shr-shr}
-use native.Mathlib.Nat.{div-eq_of_lt}
-use lib.Bits.{bit_and, bit_or, or_step, and_step, or_shr, and_shr, and_mask}
+-- Bits of numbers by the test `on`, and what `|`, `&`, `!` and `<<` do to them. Of a bit as a number std tells.
+use Rattle.std.proofs.Common.{◌≡◌, ℕ, zero, suc, ◌+◌, ◌-◌, ◌*◌, ◌/◌, ◌%◌, ◌^◌, ◌<◌, ◌≤◌, false, not, ◌&&◌, ◌||◌, eqb, sym, ap, ◌∙◌, ⊎_elim, pow-suc, arith}
+use lib.Bits.{bit_and, bit_or}
 use lib.Pow.{pow-lt, field, mod-mod-pow}
+use mir.Val.{bits}
+use Rattle.std.specs.Int.{Width, bit_not}
 use Rattle.std.proofs.lemmas.Nat.{one_shl}
-use Rattle.std.proofs.lemmas.Bool.{cases_eq, cases_lt, eq-eqb, ne_eqb, and_right}
+use Rattle.std.proofs.lemmas.Nat.Bits.{bit_at-suc, bit_at_and, bit_at_or, bit_at_not}
+use Rattle.std.proofs.lemmas.Bool.{cases_eq, cases_lt, eq-eqb, ne_eqb}
 use Rattle.std.proofs.lemmas.Bool.Decides.{nat_tests}
 use Rattle.vectors.specs.Vectors.{on}
-
-abbrev pub bit : ℕ → ℕ → ℕ
-bit v t = v / 2 ^ t % 2
-
-pub in_bit_or : (a b t : ℕ) → bit (bit_or a b) t ≡ max (bit a t) (bit b t)
-in_bit_or a b t = ap (λ n. n % 2) (or_shr a b t) ∙ omega (arith, or_step (a / 2 ^ t) (b / 2 ^ t))
-
-pub in_bit_and : (a b t : ℕ) → bit (bit_and a b) t ≡ min (bit a t) (bit b t)
-in_bit_and a b t = ap (λ n. n % 2) (and_shr a b t) ∙ omega (arith, and_step (a / 2 ^ t) (b / 2 ^ t))
+pub use Rattle.std.specs.Int.{bit_at as bit}
+pub use Rattle.std.proofs.lemmas.Nat.Bits.{bit_at_lowest as bit_first, bit_at-zero as bit_zero, bit_at_above as bit_above, bit_at-pow_same as bit_one, bit_at-pow_other as bit_apart}
+pub use Rattle.std.proofs.Math.Bool.{and-false as and_false, or-false as or_false}
 
 -- the bits of a half
 pub bit_half : (a k : ℕ) → bit (a / 2) k ≡ bit a (suc k)
-bit_half a k = ap (λ n. n % 2) (shr-shr a 1 k ∙ ap (λ n. a / 2 ^ n) (omega arith))
-
-pub bit_first : (a : ℕ) → bit a 0 ≡ a % 2
-bit_first a = ap (λ n. n % 2) (div-one a)
-
--- a number and its complement differ in each bit
-pub bit_other : (w k a b : ℕ) → a + b + 1 ≡ 2 ^ w → k < w → bit a k + bit b k ≡ 1
-bit_other zero k a b e h = absurd (omega arith)
-bit_other (suc w) zero a b e h = omega (arith, bit_first a, bit_first b, pow-suc 2 w)
-bit_other (suc w) (suc k) a b e h =
-    let e' : a / 2 + b / 2 + 1 ≡ 2 ^ w = omega (arith, pow-suc 2 w) in
-    let s : bit (a / 2) k + bit (b / 2) k ≡ 1 = bit_other w k (a / 2) (b / 2) e' (omega arith) in
-    omega (arith, bit_half a k, bit_half b k)
-
-pub bit_not : (w k a : ℕ) → a < 2 ^ w → k < w → bit ((2 ^ w - 1) - a) k ≡ 1 - bit a k
-bit_not w k a h l =
-    let e : a + ((2 ^ w - 1) - a) + 1 ≡ 2 ^ w = omega arith in
-    omega (arith, bit_other w k a ((2 ^ w - 1) - a) e l)
-
-pub bit_zero : (k : ℕ) → bit 0 k ≡ 0
-bit_zero k = ap (λ n. n % 2) (div-eq_of_lt (pow_pos k))
-
--- nothing above the top
-pub bit_above : (v j k : ℕ) → v < 2 ^ j → j ≤ k → bit v k ≡ 0
-bit_above v j k h l = let m : v < 2 ^ k = omega (arith, pow_mono l) in ap (λ n. n % 2) (div-eq_of_lt m)
+bit_half a k = sym (bit_at-suc a k)
 
 pub bit_top : (v j : ℕ) → 2 ^ j ≤ v → v < 2 ^ suc j → bit v j ≡ 1
 bit_top v zero h l = omega (arith, bit_first v)
@@ -51,17 +23,6 @@ bit_top v (suc j) h l =
     let e = pow-suc 2 j in let f = pow-suc 2 (suc j) in
     let s : bit (v / 2) j ≡ 1 = bit_top (v / 2) j (omega arith) (omega arith) in
     sym (bit_half v j) ∙ s
-
-pub bit_one : (t : ℕ) → bit (2 ^ t) t ≡ 1
-bit_one t = bit_top (2 ^ t) t (omega arith) (omega (arith, pow-suc 2 t, pow_pos t))
-
-pub bit_apart : (t k : ℕ) → (k ≡ t → ⊥) → bit (2 ^ t) k ≡ 0
-bit_apart zero zero ne = absurd (ne refl)
-bit_apart zero (suc k) ne = bit_above 1 1 (suc k) (omega arith) (omega arith)
-bit_apart (suc t) zero ne = omega (arith, bit_first (2 ^ suc t), pow-suc 2 t)
-bit_apart (suc t) (suc k) ne =
-    let e : 2 ^ suc t / 2 ≡ 2 ^ t = omega (arith, pow-suc 2 t) in
-    sym (bit_half (2 ^ suc t) k) ∙ ap (λ n. bit n k) e ∙ bit_apart t k (λ q. ne (ap suc q))
 
 -- the low bits of a number are those of its remainder
 pub bit_mod : (n w k : ℕ) → k < w → bit (n % 2 ^ w) k ≡ bit n k
@@ -73,33 +34,23 @@ bit_mod n w k h =
 -- the same by the test `on`
 
 pub on_or : (a b k : ℕ) → on (bit_or a b) k ≡ (on b k || on a k)
-on_or a b k = let e = in_bit_or a b k in grind (arith, nat_tests)
+on_or a b k = let e = bit_at_or a b k in grind (arith, nat_tests)
 
-pub on_and : (a b k : ℕ) → on (bit_and a b) k ≡ (on b k && on a k)
-on_and a b k = let e = in_bit_and a b k in grind (arith, nat_tests)
+on_and : (a b k : ℕ) → on (bit_and a b) k ≡ (on b k && on a k)
+on_and a b k = let e = bit_at_and a b k in grind (arith, nat_tests)
 
-pub on_not : (w k a : ℕ) → a < 2 ^ w → k < w → on ((2 ^ w - 1) - a) k ≡ not (on a k)
-on_not w k a h l = let e = bit_not w k a h l in grind (arith, nat_tests)
+on_not : (w : Width) (a k : ℕ) → a < 2 ^ bits w → k < bits w → on (bit_not w a) k ≡ not (on a k)
+on_not w a k h l = let e : bit (bit_not w a) k ≡ 1 - bit a k = bit_at_not w a k h l in grind (arith, nat_tests)
 
-pub on_above : (a w k : ℕ) → a < 2 ^ w → w ≤ k → on a k ≡ false
+on_above : (a w k : ℕ) → a < 2 ^ w → w ≤ k → on a k ≡ false
 on_above a w k h l = ne_eqb (bit a k) 1 (omega (arith, bit_above a w k h l))
 
-pub on_zero : (k : ℕ) → on 0 k ≡ false
-on_zero k = ne_eqb (bit 0 k) 1 (omega (arith, bit_zero k))
-
-pub on_one : (t k : ℕ) → on (2 ^ t) k ≡ eqb k t
+on_one : (t k : ℕ) → on (2 ^ t) k ≡ eqb k t
 on_one t k =
     ⊎_elim
     (λ (e : k ≡ t). eq-eqb (bit (2 ^ t) k) 1 (ap (bit (2 ^ t)) e ∙ bit_one t) ∙ sym (eq-eqb k t e))
     (λ (ne : k ≡ t → ⊥). ne_eqb (bit (2 ^ t) k) 1 (omega (arith, bit_apart t k ne)) ∙ sym (ne_eqb k t ne))
     (cases_eq k t)
-
-pub and_false : (a : Bool) → (a && false) ≡ false
-and_false a = and_right a false refl
-
-pub or_false : (a : Bool) → (a || false) ≡ a
-or_false true = refl
-or_false false = refl
 
 -- as code writes `1 << t`, in w bits
 abbrev pub shifted : ℕ → ℕ → ℕ
@@ -113,21 +64,17 @@ pub switch_on : (w x k j : ℕ) → k < w → on (bit_or x (shifted w k)) j ≡ 
 switch_on w x k j h = ap (λ n. on (bit_or x n) j) (shifted_is w k h) ∙ on_or x (2 ^ k) j ∙ ap (λ b. b || on x j) (on_one k j)
 
 -- below the width
-pub switch_off_low : (w x k j : ℕ) → k < w → j < w → on (bit_and x ((2 ^ w - 1) - shifted w k)) j ≡ (not (eqb j k) && on x j)
+pub switch_off_low : (w : Width) (x k j : ℕ) → k < bits w → j < bits w → on (bit_and x (bit_not w (shifted (bits w) k))) j ≡ (not (eqb j k) && on x j)
 switch_off_low w x k j h l =
-    ap (λ n. on (bit_and x ((2 ^ w - 1) - n)) j) (shifted_is w k h) ∙ on_and x ((2 ^ w - 1) - 2 ^ k) j
-    ∙ ap (λ b. b && on x j) (on_not w j (2 ^ k) (pow-lt h) l ∙ ap not (on_one k j))
+    ap (λ n. on (bit_and x (bit_not w n)) j) (shifted_is (bits w) k h) ∙ on_and x (bit_not w (2 ^ k)) j
+    ∙ ap (λ b. b && on x j) (on_not w (2 ^ k) j (pow-lt h) l ∙ ap not (on_one k j))
 
-pub switch_off : (w x k j : ℕ) → x < 2 ^ w → k < w → on (bit_and x ((2 ^ w - 1) - shifted w k)) j ≡ (not (eqb j k) && on x j)
+pub switch_off : (w : Width) (x k j : ℕ) → x < 2 ^ bits w → k < bits w → on (bit_and x (bit_not w (shifted (bits w) k))) j ≡ (not (eqb j k) && on x j)
 switch_off w x k j small h =
     ⊎_elim
-    (λ (l : j < w). switch_off_low w x k j h l)
-    (λ (l : w ≤ j).
-    let off = on_above x w j small l in
-    on_and x ((2 ^ w - 1) - shifted w k) j ∙ ap (λ b. on ((2 ^ w - 1) - shifted w k) j && b) off ∙ and_false (on ((2 ^ w - 1) - shifted w k) j)
+    (λ (l : j < bits w). switch_off_low w x k j h l)
+    (λ (l : bits w ≤ j).
+    let off = on_above x (bits w) j small l in
+    on_and x (bit_not w (shifted (bits w) k)) j ∙ ap (λ b. on (bit_not w (shifted (bits w) k)) j && b) off ∙ and_false (on (bit_not w (shifted (bits w) k)) j)
     ∙ sym (ap (λ b. not (eqb j k) && b) off ∙ and_false (not (eqb j k))))
-    (cases_lt j w)
-
--- `(x >> k) & 1 == 1` asks for bit k
-pub on_test : (x k : ℕ) → eqb (bit_and (x / 2 ^ k) 1) 1 ≡ on x k
-on_test x k = ap (λ n. eqb n 1) (and_mask (x / 2 ^ k) 1)
+    (cases_lt j (bits w))

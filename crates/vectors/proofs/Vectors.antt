@@ -1,5 +1,5 @@
 -- Task vectors in code: one bit set, one bit cleared, the highest.
-use Rattle.std.proofs.Common.{◌≡◌, ℕ, zero, suc, ◌+◌, ◌-◌, ◌*◌, ◌/◌, ◌%◌, ◌^◌, ◌<◌, ◌≤◌, min, Bool, true, false, cond, not, ◌&&◌, ◌||◌, eqb, ltb, Some, None, Option, sym, refl, ap, ◌∙◌, subst, ⊎_elim, mod-lt, pow-suc, arith, pow_pos, pow_mono, shr_lt}
+use Rattle.std.proofs.Common.{◌≡◌, ℕ, zero, suc, ◌+◌, ◌-◌, ◌*◌, ◌/◌, ◌%◌, ◌^◌, ◌<◌, ◌≤◌, min, Bool, true, false, cond, not, ◌&&◌, ◌||◌, eqb, ltb, Some, None, Option, sym, refl, ap, ◌∙◌, subst, ⊎_elim, mod-lt, arith, pow_pos, pow_mono, shr_lt}
 use mathlib.Core.Path.{fun_ext}
 use lib.Bits.{bit_and, bit_or, or_lt, and_le_l}
 use lib.Count.{leading_top}
@@ -7,7 +7,9 @@ use lib.Pow.{pow-lt, split}
 use Rattle.std.proofs.lemmas.Bool.{cases_eq, cases_lt, lt-ltb, le-ltb, eq-eqb, ne_eqb, and_parts, ltb-true, eqb-true, eqb-false, cases_Bool, cases_order, both_ways, cond-true, cond-false, or_parts, or_from, not-false, not-true, or_cases, false≢true}
 use Rattle.std.proofs.lemmas.Bool.Decides.{nat_tests}
 use Rattle.vectors.specs.Vectors.{on, in_vector, vector_of, with, without, highest, some, strays}
-use Rattle.vectors.proofs.Bits.{bit, bit_mod, in_bit_and, bit_not, bit_zero, bit_above, bit_top, bit_half, bit_first, on_or, shifted, shifted_is, switch_on, switch_off_low}
+use Rattle.std.specs.Int.{w64}
+use Rattle.std.proofs.lemmas.Nat.Bits.{bit_at_and, bit_at_not, same_from_bits_below}
+use Rattle.vectors.proofs.Bits.{bit, bit_mod, bit_zero, bit_above, bit_top, on_or, shifted, shifted_is, switch_on, switch_off_low}
 
 -- a change of one number in a set of numbers below n: f says what becomes of it, by whether a number is t and whether it was there
 pub changed_below : (n t : ℕ) (f : Bool → Bool → Bool) (a b : ℕ → Bool) → ((o : Bool) → f false o ≡ o) → t < n
@@ -57,7 +59,7 @@ pub code_with : (v t : ℕ) → t < 64 → in_vector (bit_or v (shifted 64 t)) �
 code_with v t h = changed_below 64 t (λ e o. e || o) (on (bit_or v (shifted 64 t))) (on v) (λ o. refl) h (λ k l. switch_on 64 v t k h)
 
 pub code_without : (v t : ℕ) → t < 64 → in_vector (bit_and v (18446744073709551615 - shifted 64 t)) ≡ without t (in_vector v)
-code_without v t h = changed_below 64 t (λ e o. not e && o) (on (bit_and v (18446744073709551615 - shifted 64 t))) (on v) (λ o. refl) h (λ k l. switch_off_low 64 v t k h l)
+code_without v t h = changed_below 64 t (λ e o. not e && o) (on (bit_and v (18446744073709551615 - shifted 64 t))) (on v) (λ o. refl) h (λ k l. switch_off_low w64 v t k h l)
 
 pub with_below : (v t c : ℕ) → t < c → c ≤ 64 → v < 2 ^ c → bit_or v (shifted 64 t) < 2 ^ c
 with_below v t c h s l = rw (shifted_is 64 t (omega arith)) (or_lt c v (2 ^ t) l (pow-lt h))
@@ -81,7 +83,7 @@ module _ (v w : ℕ) (big : v < 2 ^ 64) (wide : w < 2 ^ 64) where
   lacks t = in_vector v t && not (in_vector w t)
 
   rest_bit : (k : ℕ) → k < 64 → bit (bit_and v (18446744073709551615 - w)) k ≡ min (bit v k) (1 - bit w k)
-  rest_bit k h = in_bit_and v (18446744073709551615 - w) k ∙ ap (min (bit v k)) (bit_not 64 k w wide h)
+  rest_bit k h = bit_at_and v (18446744073709551615 - w) k ∙ ap (min (bit v k)) (bit_at_not w64 w k wide h)
 
   rest_false : (n : ℕ) → n ≤ 64 → some n lacks ≡ false → (k : ℕ) → k < n → bit (bit_and v (18446744073709551615 - w)) k ≡ 0
   unfolding some
@@ -101,19 +103,12 @@ module _ (v w : ℕ) (big : v < 2 ^ 64) (wide : w < 2 ^ 64) where
       let z : bit (bit_and v (18446744073709551615 - w)) n ≡ 0 = ap (λ x. bit x n) e ∙ bit_zero n in
       or_from (in_vector v n && not (in_vector w n)) (some n lacks) (grind (arith, nat_tests)) (rest_true n (omega arith) e)
 
--- a number with no bit is 0
-pub no_bit : (w v : ℕ) → v < 2 ^ w → ((k : ℕ) → k < w → bit v k ≡ 0) → v ≡ 0
-no_bit zero v h z = omega arith
-no_bit (suc w) v h z =
-    let e : v / 2 ≡ 0 = no_bit w (v / 2) (omega (arith, pow-suc 2 w)) (λ k l. bit_half v k ∙ z (suc k) (omega arith)) in
-    omega (arith, bit_first v, z 0 (omega arith))
-
 pub strays_is : (v w : ℕ) → v < 2 ^ 64 → w < 2 ^ 64 → not (eqb (bit_and v (18446744073709551615 - w)) 0) ≡ strays v (in_vector w)
 strays_is v w big wide = ⊎_elim
     (λ (e : bit_and v (18446744073709551615 - w) ≡ 0). let f = rest_true v w big wide 64 (omega arith) e in grind (arith, nat_tests))
     (λ ne. ⊎_elim
     (λ (t : strays v (in_vector w) ≡ true). grind (arith, nat_tests))
-    (λ (f : strays v (in_vector w) ≡ false). absurd (ne (no_bit 64 (bit_and v (18446744073709551615 - w)) (omega (arith, and_le_l v (18446744073709551615 - w))) (rest_false v w big wide 64 (omega arith) f))))
+    (λ (f : strays v (in_vector w) ≡ false). absurd (ne (same_from_bits_below 64 (bit_and v (18446744073709551615 - w)) 0 (omega (arith, and_le_l v (18446744073709551615 - w))) (omega arith) (λ k l. rest_false v w big wide 64 (omega arith) f k l ∙ sym (bit_zero k)))))
     (cases_Bool (strays v (in_vector w))))
     (cases_eq (bit_and v (18446744073709551615 - w)) 0)
 
