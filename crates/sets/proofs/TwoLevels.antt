@@ -7,7 +7,7 @@ use Rattle.vectors.proofs.Bits.{bit, bit_zero}
 use Rattle.vectors.proofs.Vectors.{changed_below, highest_is, highest_none}
 use Rattle.sets.specs.Rows.{row, place, in_rows}
 use Rattle.sets.specs.Lowest.{lowest_place}
-use Rattle.sets.proofs.LowestOnes.{Lowest, lowest_holds, below_lowest}
+use Rattle.sets.proofs.LowestOnes.{Lowest, lowest_holds}
 
 -- where a row has a bit, it is not 0, and the other way round
 pub on_some : (x k : ℕ) → on x k ≡ true → eqb x 0 ≡ false
@@ -64,10 +64,10 @@ highest_rows g i b rs tied pos byte row_byte ei eb =
       omega arith,
       highest_is 64 t (in_rows rs) (omega arith) here (λ k a l. and_right (ltb k 64) (on (get_or rs (row k) 0) (place k)) (⊎_elim
           (λ (q : row k ≡ i).
-          let z : bit (get_or rs i 0) (place k) ≡ 0 = below_lowest b (get_or rs i 0) (place k) lr.first (omega arith) in
+          let z : bit (get_or rs i 0) (place k) ≡ 0 = lr.first (place k) (omega arith) in
           ap (λ j. on (get_or rs j 0) (place k)) q ∙ ne_eqb (bit (get_or rs i 0) (place k)) 1 (omega arith))
           (λ (nq : row k ≢ i).
-          let z : bit g (row k) ≡ 0 = below_lowest i g (row k) lg.first (omega arith) in
+          let z : bit g (row k) ≡ 0 = lg.first (row k) (omega arith) in
           let w : not (eqb (get_or rs (row k) 0) 0) ≡ false = sym (tied (row k) (omega arith)) ∙ ne_eqb (bit g (row k)) 1 (omega arith) in
           let v : get_or rs (row k) 0 ≡ 0 = eqb-true (get_or rs (row k) 0) 0 (not-false (eqb (get_or rs (row k) 0) 0) w) in
           ap (λ y. on y (place k)) v ∙ ne_eqb (bit 0 (place k)) 1 (omega (arith, bit_zero (place k))))

@@ -1,4 +1,5 @@
-// One bit of a byte switched.
+// One bit of a byte switched. For bytes alone: a set in a word switches its bits in place, and one function for both
+// widths would need bounds on four operators, and their laws, to save two operators.
 ghost use Rattle.std.specs.Prelude.{◌≡◌, ℕ, ◌<◌, ◌≤◌, not, ◌&&◌, ◌||◌, ◌==◌};
 ghost use Rattle.vectors.specs.Vectors.{on};
 

@@ -23,7 +23,7 @@ impl<A: WaitingSet, B: WaitingSet> Pair<A, B> {
 
     // Where the numbers of the second set begin, if the sizes add to at most 64.
     fn offset(&self) -> Option<u8>
-        ensures { result ≡ cond (nat_le (A.WaitingSet.room self.now.first + B.WaitingSet.room self.now.second) 64) (Some (A.WaitingSet.room self.now.first)) None }
+        ensures { let a = A.WaitingSet.room self.now.first in let b = B.WaitingSet.room self.now.second in result ≡ cond (nat_le (a + b) 64) (Some a) None }
     {
         let a = self.first.size();
         (a + self.second.size() <= 64).then_some(a)
@@ -31,7 +31,7 @@ impl<A: WaitingSet, B: WaitingSet> Pair<A, B> {
 
     // The number of t in the second set, if it lies there; else it lies in the first under its own number.
     fn in_second(&self, t: u8) -> Option<u8>
-        ensures { result ≡ cond (nat_le (A.WaitingSet.room self.now.first + B.WaitingSet.room self.now.second) 64 && nat_le (A.WaitingSet.room self.now.first) t) (Some (t - A.WaitingSet.room self.now.first)) None }
+        ensures { let a = A.WaitingSet.room self.now.first in let b = B.WaitingSet.room self.now.second in result ≡ cond (nat_le (a + b) 64 && nat_le a t) (Some (t - a)) None }
     {
         t.checked_sub(self.offset()?)
     }

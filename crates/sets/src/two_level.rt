@@ -19,7 +19,7 @@ pub struct TwoLevelSet {
 }
 
 impl TwoLevelSet {
-    // The empty set.
+    // The empty set, written out: a struct with a ghost field derives no Default.
     pub fn new() -> TwoLevelSet
         ensures group { result.group ≡ 0 }
         ensures rows { (i : ℕ) → slice_index result.rows i ≡ 0 }
