@@ -7,11 +7,12 @@ use Rattle.machine.specs.Schedules.{Schedule, head, running, started}
 use Rattle.machine.specs.Machine.{Machine, word_of}
 use Rattle.kernel.specs.declared.state.Core.{Core}
 use Rattle.kernel.specs.declared.kernel.Kernel.{Kernel}
-use Rattle.kernel.specs.Parts.{chain_in, held_in, marks_in}
+use Rattle.kernel.specs.Parts.{marks_in}
+use Rattle.kernel.specs.Lists.{entries}
 
 -- The schedule of a core beside a waiting set of size c that holds w.
 abbrev pub schedule_of : Core → ℕ → (ℕ → Bool) → Schedule
-schedule_of k c w = record { size = c; waiting = w; plan = k.plan; chain = chain_in k.chain; held = held_in k.held }
+schedule_of k c w = record { size = c; waiting = w; plan = k.plan; chain = k.chain; held = entries k.held }
 
 -- The machine of a kernel over a set of which room and holds say size and members.
 abbrev pub meaning : {R : Type 0} → (R → ℕ) → (R → ℕ → Bool) → Kernel R → Machine

@@ -5,7 +5,8 @@ ghost use Rattle.plan.specs.Plans.{reaches};
 ghost use Rattle.machine.specs.Schedules.{head, tail, newest, holder as holder_in, higher as higher_of, system_ceiling_under};
 ghost use Rattle.machine.specs.Refusals.{present, absent, same, tasks_of, resources_of, may_lock, holds_some};
 ghost use Rattle.machine.specs.History.{ceiling_under};
-ghost use Rattle.kernel.specs.Parts.{chain_in, held_in};
+ghost use Rattle.machine.specs.Shapes.{Falling};
+ghost use Rattle.kernel.specs.Lists.{entries};
 ghost use Rattle.kernel.specs.Changes.{may_start, Blank, Fitted, Rechained, Reheld};
 
 use crate::held_lock::HeldLock;
@@ -17,11 +18,7 @@ use vectors::{contains, strays};
 fn higher(a: Option<u8>, b: Option<u8>) -> Option<u8>
     ensures { result ≡ higher_of a b }
 {
-    match (a, b) {
-        (None, _) => b,
-        (_, None) => a,
-        (Some(x), Some(y)) => if x < y { b } else { a },
-    }
+    a.max(b)
 }
 
 impl Core {
@@ -41,10 +38,7 @@ impl Core {
     pub(crate) fn has_plan(&self) -> bool
         ensures { result ≡ present self.now.plan }
     {
-        match &self.plan {
-            Some(_) => true,
-            None => false,
-        }
+        self.plan.is_some()
     }
 
     // Takes its first plan, and clears every mark.
@@ -60,10 +54,7 @@ impl Core {
     pub(crate) fn declared(&self) -> u64
         ensures { in_vector result ≡ tasks_of self.now.plan }
     {
-        match &self.plan {
-            Some(p) => p.declared,
-            None => 0,
-        }
+        self.plan.as_ref().map_or(0, |p| p.declared)
     }
 
     // Whether the vector v holds a task that is not declared.
@@ -78,45 +69,35 @@ impl Core {
         ensures value { result ≡ resources_of self.now.plan }
         ensures bound { result ≤ 32 }
     {
-        match &self.plan {
-            Some(p) => p.resources as u16,
-            None => 0,
-        }
+        self.plan.as_ref().map_or(0, |p| u16::from(p.resources))
     }
 
     // Whether task t is a user of resource r.
     pub(crate) fn may_lock(&self, r: u16, t: u8) -> bool
         ensures { result ≡ may_lock self.now.plan r (Some t) }
     {
-        match &self.plan {
-            Some(p) => contains(p.users_of(r), t),
-            None => false,
-        }
+        self.plan
+            .as_ref()
+            .is_some_and(|p| contains(p.users_of(r), t))
     }
 
     // The ceiling of resource r.
     pub(crate) fn ceiling(&self, r: u16) -> Option<u8>
         ensures { result ≡ ceiling_under self.now.plan r }
     {
-        match &self.plan {
-            Some(p) => p.ceiling(r),
-            None => None,
-        }
+        self.plan.as_ref().and_then(|p| p.ceiling(r))
     }
 
     // The system ceiling, which the newest lock keeps.
     pub(crate) fn system_ceiling(&self) -> Option<u8>
-        ensures { result ≡ system_ceiling_under self.now.plan (held_in self.now.held) }
+        ensures { result ≡ system_ceiling_under self.now.plan (entries self.now.held) }
     {
-        match self.held.newest() {
-            Some(lock) => lock.level,
-            None => None,
-        }
+        self.held.newest().and_then(|lock| lock.level)
     }
 
     // Whether task w exceeds the running task and the system ceiling, under a plan.
     pub(crate) fn may_start(&self, w: u8) -> bool
-        ensures { result ≡ may_start self.now.plan (chain_in self.now.chain) (held_in self.now.held) w }
+        ensures { result ≡ may_start self.now.plan self.now.chain (entries self.now.held) w }
     {
         if !self.has_plan() {
             return false;
@@ -135,15 +116,15 @@ impl Core {
     // Starts task w above the running task.
     pub(crate) fn start(&mut self, w: u8)
         requires small { w < 64 }
-        requires above { reaches (head (chain_in self.old.chain)) w ≡ false }
-        ensures { Rechained self.old self.new (w ∷ chain_in self.old.chain) }
+        requires above { reaches (head self.old.chain) w ≡ false }
+        ensures { Rechained self.old self.new (w ∷ self.old.chain) }
     {
         self.chain.push(w);
     }
 
     // Whether the running task holds a resource: holders do not fall, so the newest holder tells.
     pub(crate) fn running_holds(&self) -> bool
-        ensures { result ≡ holds_some (held_in self.now.held) (head (chain_in self.now.chain)) }
+        ensures { result ≡ holds_some (entries self.now.held) (head self.now.chain) }
     {
         let Some(t) = self.chain.running() else {
             return false;
@@ -156,39 +137,36 @@ impl Core {
 
     // Ends the running task, which holds nothing.
     pub(crate) fn end_running(&mut self)
-        requires { holds_some (held_in self.old.held) (head (chain_in self.old.chain)) ≡ false }
-        ensures { Rechained self.old self.new (tail (chain_in self.old.chain)) }
+        requires { holds_some (entries self.old.held) (head self.old.chain) ≡ false }
+        ensures { Rechained self.old self.new (tail self.old.chain) }
     {
         self.chain.pop();
     }
 
     // Whether task t holds resource r.
     pub(crate) fn held_by(&self, r: u16, t: u8) -> bool
-        ensures { not result ≡ (absent (holder_in (held_in self.now.held) r) || not (same (holder_in (held_in self.now.held) r) (Some t))) }
+        ensures { not result ≡ (absent (holder_in (entries self.now.held) r) || not (same (holder_in (entries self.now.held) r) (Some t))) }
     {
-        match self.held.holder(r) {
-            Some(k) => k == t,
-            None => false,
-        }
+        self.held.holder(r) == Some(t)
     }
 
     // Whether resource r was locked last.
     pub(crate) fn locked_last(&self, r: u16) -> bool
-        ensures { result ≡ same (newest (held_in self.now.held)) (Some r) }
+        ensures { result ≡ same (newest (entries self.now.held)) (Some r) }
     {
-        match self.held.newest() {
-            Some(lock) => lock.resource as u16 == r,
-            None => false,
-        }
+        self.held
+            .newest()
+            .is_some_and(|lock| u16::from(lock.resource) == r)
     }
 
     // Notes that the running task t has locked resource r.
     pub(crate) fn lock(&mut self, r: u16, t: u8)
         requires small { r < 32 }
-        requires runs { head (chain_in self.old.chain) ≡ Some t }
-        requires free { holder_in (held_in self.old.held) r ≡ None }
+        requires falling { Falling self.old.chain }
+        requires runs { head self.old.chain ≡ Some t }
+        requires free { holder_in (entries self.old.held) r ≡ None }
         requires planned { present self.old.plan ≡ true }
-        ensures { Reheld self.old self.new ((r, t) ∷ held_in self.old.held) }
+        ensures { Reheld self.old self.new ((r, t) ∷ entries self.old.held) }
     {
         let level = higher(self.ceiling(r), self.system_ceiling());
         self.held.push(HeldLock {
@@ -200,7 +178,7 @@ impl Core {
 
     // Undoes the newest lock.
     pub(crate) fn unlock(&mut self)
-        ensures { Reheld self.old self.new (tail (held_in self.old.held)) }
+        ensures { Reheld self.old self.new (tail (entries self.old.held)) }
     {
         self.held.pop();
     }

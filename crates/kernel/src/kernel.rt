@@ -5,7 +5,7 @@ ghost use Rattle.machine.specs.Moves.{release as releasing};
 ghost use Rattle.machine.specs.Schedules.{due, started, moved};
 ghost use Rattle.machine.specs.Machine.{fresh};
 ghost use Rattle.machine.specs.Laws.{Set};
-ghost use Rattle.kernel.specs.Parts.{chain_in, marks_in};
+ghost use Rattle.kernel.specs.Parts.{marks_in};
 ghost use Rattle.kernel.specs.Meaning.{schedule_of, meaning, told, steady};
 
 use crate::state::Core;
@@ -68,7 +68,7 @@ impl<R: WaitingSet> Kernel<R> {
 
     // The answer of a call that starts nothing.
     pub(crate) fn steady(&self, mark: Option<bool>) -> Reply
-        ensures { result ≡ steady (chain_in self.now.core.chain) mark }
+        ensures { result ≡ steady self.now.core.chain mark }
     {
         Reply {
             running: self.core.chain.running(),

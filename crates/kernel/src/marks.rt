@@ -15,30 +15,23 @@ impl Core {
         ensures value { result ≡ events_of self.now.plan }
         ensures bound { result ≤ 32 }
     {
-        match &self.plan {
-            Some(p) => p.events as u16,
-            None => 0,
-        }
+        self.plan.as_ref().map_or(0, |p| u16::from(p.events))
     }
 
     // The tasks registered for event e.
     pub(crate) fn registered(&self, e: u16) -> u64
         ensures { in_vector result ≡ registered_of self.now.plan e }
     {
-        match &self.plan {
-            Some(p) => p.registered_for(e),
-            None => 0,
-        }
+        self.plan.as_ref().map_or(0, |p| p.registered_for(e))
     }
 
     // Whether task t is registered for event e.
     pub(crate) fn may_test(&self, e: u16, t: u8) -> bool
         ensures { result ≡ may_test self.now.plan e (Some t) }
     {
-        match &self.plan {
-            Some(p) => contains(p.registered_for(e), t),
-            None => false,
-        }
+        self.plan
+            .as_ref()
+            .is_some_and(|p| contains(p.registered_for(e), t))
     }
 
     // Whether a vector is given that holds a task not registered for event e.
@@ -55,13 +48,9 @@ impl Core {
     pub(crate) fn meant(&self, e: u16, v: Option<u64>) -> u64
         ensures { in_vector result ≡ meant_under self.now.plan e v }
     {
-        match &self.plan {
-            Some(p) => match v {
-                Some(w) => w,
-                None => p.registered_for(e),
-            },
-            None => 0,
-        }
+        self.plan
+            .as_ref()
+            .map_or(0, |p| v.unwrap_or(p.registered_for(e)))
     }
 
     // Whether task t is marked for event e.

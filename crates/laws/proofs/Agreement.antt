@@ -14,7 +14,8 @@ use Rattle.machine.specs.History.{Entry, History, told, made, runs, plan_of, hol
 use Rattle.vectors.proofs.Vectors.{highest_empties}
 use Rattle.vectors.proofs.Vectors.{Greatest, highest_some}
 use Rattle.laws.proofs.Sets.{some_none, false_from}
-use Rattle.laws.proofs.Lists.{Falling, unlocked}
+use Rattle.laws.proofs.Lists.{unlocked}
+use Rattle.machine.specs.Shapes.{Falling}
 use Rattle.laws.proofs.Allowances.{allows}
 use Rattle.laws.proofs.Invariant.{Shape, Suits, Settled, Empty, Stands, Good, Allowed, someone_runs, start_busy, step_good}
 

@@ -12,7 +12,8 @@ use Rattle.machine.specs.History.{given}
 use Rattle.vectors.proofs.Vectors.{highest_empties}
 use Rattle.vectors.proofs.Vectors.{Greatest, highest_some}
 use Rattle.laws.proofs.Sets.{some_none, false_from}
-use Rattle.laws.proofs.Lists.{among_cases, among_there, Falling, falling_tail, top, head_among, tail_among, among_tail, holder_cases, Single, single_tail, Nested, nested_tail, holder_tail, holds_none, reaches_down, under_ceiling, under_there, not_under, under_down}
+use Rattle.laws.proofs.Lists.{among_cases, among_there, falling_tail, top, head_among, tail_among, among_tail, holder_cases, single_tail, nested_tail, holder_tail, holds_none, reaches_down, under_ceiling, under_there, not_under, under_down}
+use Rattle.machine.specs.Shapes.{Falling, Single, Nested}
 
 -- whatever the plan
 pub record Shape (y : Schedule) : Type 0 where

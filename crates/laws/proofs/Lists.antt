@@ -5,6 +5,7 @@ use Rattle.plan.specs.declared.record.Plan.{Plan}
 use Rattle.vectors.specs.Vectors.{in_vector}
 use Rattle.plan.specs.Plans.{declares, uses, ceiling, reaches}
 use Rattle.machine.specs.Schedules.{head, tail, among, holder, holds_any, newest, higher, system_ceiling}
+use Rattle.machine.specs.Shapes.{Falling, Single, Nested}
 use Rattle.vectors.proofs.Bits.{or_false}
 use Rattle.vectors.proofs.Vectors.{highest_empties, in_small, in_none}
 use Rattle.vectors.proofs.Vectors.{some_inj, highest_some}
@@ -20,11 +21,6 @@ among_here x xs = or_left (eqb x x) (among xs x) (eq-eqb x x refl)
 
 pub among_there : (x : ℕ) (xs : List ℕ) (t : ℕ) → among xs t ≡ true → among (x ∷ xs) t ≡ true
 among_there x xs t e = or_right (eqb t x) (among xs t) e
-
--- each newer task is greater
-abbrev pub Falling : List ℕ → Type 0
-Falling [] = Unit {0}
-Falling (x ∷ xs) = ((t : ℕ) → among xs t ≡ true → t < x) × Falling xs
 
 pub falling_tail : (xs : List ℕ) → Falling xs → Falling (tail xs)
 falling_tail [] f = tt
@@ -70,11 +66,6 @@ holder_cases x xs s k e = go (eqb s x.0) refl e
     go true q f = inl (eqb-true s x.0 q, some_inj x.1 k f)
     go false q f = inr (eqb-false s x.0 q, f)
 
--- no resource is held twice
-abbrev pub Single : List (ℕ × ℕ) → Type 0
-Single [] = Unit {0}
-Single (x ∷ xs) = (holder xs x.0 ≡ None) × Single xs
-
 pub single_tail : (xs : List (ℕ × ℕ)) → Single xs → Single (tail xs)
 single_tail [] f = tt
 single_tail (x ∷ xs) f = f.1
@@ -86,11 +77,6 @@ holder_older x xs f s k e =
 pub holder_tail : (xs : List (ℕ × ℕ)) → Single xs → (s k : ℕ) → holder (tail xs) s ≡ Some k → holder xs s ≡ Some k
 holder_tail [] f s k e = e
 holder_tail (x ∷ xs) f s k e = holder_older x xs f s k e
-
--- no newer holder is below an older one
-abbrev pub Nested : List (ℕ × ℕ) → Type 0
-Nested [] = Unit {0}
-Nested (x ∷ xs) = ((r k : ℕ) → holder xs r ≡ Some k → k ≤ x.1) × Nested xs
 
 pub nested_tail : (xs : List (ℕ × ℕ)) → Nested xs → Nested (tail xs)
 nested_tail [] f = tt

@@ -1,13 +1,13 @@
-use Rattle.std.proofs.Common.{◌≡◌, ℕ, ◌-◌, ◌<◌, false, get_or, ap, ◌∙◌, arith}
-use Rattle.machine.specs.Schedules.{among}
-use Rattle.kernel.specs.Lists.{no_lock, resources_of}
-use Rattle.kernel.proofs.Lists.{split, not_among, noted_less}
+use Rattle.std.proofs.Common.{List, [], ◌∷◌, reverse, refl, ap, ◌∙◌, subst, arith}
+use Rattle.std.proofs.lemmas.List.{reverse-append}
+use Rattle.laws.proofs.Lists.{holder_here}
+use Rattle.kernel.specs.Lists.{entries, IsHeldList}
+use Rattle.kernel.proofs.Lists.{locked_less}
+use Rattle.kernel.specs.declared.held_lock.HeldLock.{HeldLock}
 use Rattle.kernel.proofs.state.HeldList.pop.Goals as goal
 
+pub overflow_shl-self : goal.overflow_shl-self
+overflow_shl-self c = let l = c.in-Some.lock in omega (arith, (subst (λ (ys : List HeldLock). IsHeldList ys c.self.inside.taken) (ap reverse c.in-Some.ensures.items ∙ reverse-append c.pop.new.self.items (c.in-Some.lock ∷ [])) c.self.invariant).small l.resource l.holder (holder_here l.resource l.holder (entries (reverse c.pop.new.self.items)) l.resource refl))
+
 pub invariant_of-self : goal.invariant_of-self
-invariant_of-self c =
-    let s = c.args.self.now in
-    let f : ℕ → ℕ = λ i. (get_or s.locks i no_lock).resource in
-    let n : ℕ = s.count - 1 in
-    let some : 0 < s.count = c.if-count-gt0.true in
-    let gone : among (resources_of s.locks n) (f n) ≡ false = not_among f n (f n) (λ i l e. s.apart i n l (omega arith) e) in record { few = omega arith; named = (λ i l. s.named i (omega arith)); apart = (λ i j a b. s.apart i j a (omega arith)); nested = (λ i j a b. s.nested i j a (omega arith)); noted = noted_less s.taken (f n) (resources_of s.locks n) (omega (arith, s.named n (omega arith))) gone (λ t. s.noted t ∙ ap (λ xs. among xs t) (split f s.count some)) }
+invariant_of-self c = locked_less c.in-Some.lock (reverse c.pop.new.self.items) c.self.inside.taken (subst (λ (ys : List HeldLock). IsHeldList ys c.self.inside.taken) (ap reverse c.in-Some.ensures.items ∙ reverse-append c.pop.new.self.items (c.in-Some.lock ∷ [])) c.self.invariant)
