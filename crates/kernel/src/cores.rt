@@ -2,8 +2,10 @@
 ghost use Rattle.std.specs.Prelude.{◌≡◌, ℕ, ◌<◌, ◌≤◌, Bool, true, false, not, ◌||◌, ◌∷◌, Some, None};
 ghost use Rattle.vectors.specs.Vectors.{in_vector, strays as strays_from};
 ghost use Rattle.plan.specs.Plans.{reaches};
-ghost use Rattle.machine.specs.Schedules.{head, tail, newest, holder as holder_in, higher as higher_of, system_ceiling_under};
+ghost use Rattle.machine.specs.Schedules.{head, tail, newest, holder as holder_in, system_ceiling_under};
 ghost use Rattle.machine.specs.Refusals.{present, absent, same, tasks_of, resources_of, may_lock, holds_some};
+ghost use Rattle.std.specs.Option.{ok_or};
+ghost use Rattle.machine.specs.declared.Refusal.TheVariants.{NoTaskRuns};
 ghost use Rattle.machine.specs.History.{ceiling_under};
 ghost use Rattle.machine.specs.Shapes.{Falling};
 ghost use Rattle.kernel.specs.Lists.{entries};
@@ -11,15 +13,9 @@ ghost use Rattle.kernel.specs.Changes.{may_start, Blank, Fitted, Rechained, Rehe
 
 use crate::held_lock::HeldLock;
 use crate::state::{Chain, Core, HeldList};
+use machine::Refusal;
 use plan::record::Plan;
 use vectors::{contains, strays};
-
-// The higher of two levels, of which either may be missing.
-fn higher(a: Option<u8>, b: Option<u8>) -> Option<u8>
-    ensures { result ≡ higher_of a b }
-{
-    a.max(b)
-}
 
 impl Core {
     // No plan, nobody started, nothing held, no mark.
@@ -99,18 +95,15 @@ impl Core {
     pub(crate) fn may_start(&self, w: u8) -> bool
         ensures { result ≡ may_start self.now.plan self.now.chain (entries self.now.held) w }
     {
-        if !self.has_plan() {
-            return false;
-        }
-        if let Some(t) = self.chain.running() {
-            if w <= t {
-                return false;
-            }
-        }
-        match self.system_ceiling() {
-            Some(c) => c < w,
-            None => true,
-        }
+        self.has_plan() && self.chain.running() < Some(w) && self.system_ceiling() < Some(w)
+    }
+
+    // The running task, without which most calls are turned down.
+    pub(crate) fn running(&self) -> Result<u8, Refusal>
+        ensures value { result ≡ ok_or (head self.now.chain) NoTaskRuns }
+        ensures falling { Falling self.now.chain }
+    {
+        self.chain.running().ok_or(Refusal::NoTaskRuns)
     }
 
     // Starts task w above the running task.
@@ -126,12 +119,9 @@ impl Core {
     pub(crate) fn running_holds(&self) -> bool
         ensures { result ≡ holds_some (entries self.now.held) (head self.now.chain) }
     {
-        let Some(t) = self.chain.running() else {
-            return false;
-        };
-        match self.held.newest() {
-            Some(lock) => lock.holder == t,
-            None => false,
+        match (self.chain.running(), self.held.newest()) {
+            (Some(t), Some(lock)) => lock.holder == t,
+            _ => false,
         }
     }
 
@@ -168,7 +158,7 @@ impl Core {
         requires planned { present self.old.plan ≡ true }
         ensures { Reheld self.old self.new ((r, t) ∷ entries self.old.held) }
     {
-        let level = higher(self.ceiling(r), self.system_ceiling());
+        let level = self.ceiling(r).max(self.system_ceiling());
         self.held.push(HeldLock {
             resource: r as u8,
             holder: t,

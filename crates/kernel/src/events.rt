@@ -5,6 +5,7 @@ ghost use Rattle.machine.specs.Machine.{step, answer as answer_to};
 ghost use Rattle.kernel.specs.Meaning.{meaning};
 
 use crate::kernel::Kernel;
+use crate::refuse::refuse_if;
 use machine::{Refusal, Reply};
 use sets::waiting::WaitingSet;
 
@@ -14,12 +15,8 @@ impl<R: WaitingSet> Kernel<R> {
         ensures after { meaning R.room R.holds self.new ≡ step (Signal e v) (meaning R.room R.holds self.old) }
         ensures value { result ≡ answer_to (Signal e v) (meaning R.room R.holds self.old) }
     {
-        if self.core.events() <= e {
-            return Err(Refusal::NotDeclared);
-        }
-        if self.core.any_unregistered(e, v) {
-            return Err(Refusal::ForeignTask);
-        }
+        refuse_if(self.core.events() <= e, Refusal::NotDeclared)?;
+        refuse_if(self.core.any_unregistered(e, v), Refusal::ForeignTask)?;
         let meant = self.core.meant(e, v);
         self.core.set_marks(e, meant);
         Ok(self.steady(None))
@@ -30,15 +27,9 @@ impl<R: WaitingSet> Kernel<R> {
         ensures after { meaning R.room R.holds self.new ≡ step (Test e) (meaning R.room R.holds self.old) }
         ensures value { result ≡ answer_to (Test e) (meaning R.room R.holds self.old) }
     {
-        let Some(t) = self.core.chain.running() else {
-            return Err(Refusal::NoTaskRuns);
-        };
-        if self.core.events() <= e {
-            return Err(Refusal::NotDeclared);
-        }
-        if !self.core.may_test(e, t) {
-            return Err(Refusal::NotEntitled);
-        }
+        let t = self.core.running()?;
+        refuse_if(self.core.events() <= e, Refusal::NotDeclared)?;
+        refuse_if(!self.core.may_test(e, t), Refusal::NotEntitled)?;
         let marked = self.core.marked(e, t);
         self.core.clear_mark(e, t);
         Ok(self.steady(Some(marked)))

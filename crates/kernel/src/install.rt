@@ -5,6 +5,7 @@ ghost use Rattle.machine.specs.Machine.{step, answer as answer_to};
 ghost use Rattle.kernel.specs.Meaning.{meaning};
 
 use crate::kernel::Kernel;
+use crate::refuse::refuse_if;
 use machine::{Refusal, Reply};
 use plan::record::Plan;
 use sets::waiting::WaitingSet;
@@ -16,18 +17,10 @@ impl<R: WaitingSet> Kernel<R> {
         ensures after { meaning R.room R.holds self.new ≡ step (Install plan.now) (meaning R.room R.holds self.old) }
         ensures value { result ≡ answer_to (Install plan.now) (meaning R.room R.holds self.old) }
     {
-        if self.core.has_plan() {
-            return Err(Refusal::AlreadyInstalled);
-        }
-        let Some(top) = highest(plan.declared) else {
-            return Err(Refusal::NoTaskDeclared);
-        };
-        if self.set.size() <= top {
-            return Err(Refusal::SetTooSmall);
-        }
-        if let Some(_) = self.set.highest() {
-            return Err(Refusal::SetNotEmpty);
-        }
+        refuse_if(self.core.has_plan(), Refusal::AlreadyInstalled)?;
+        let top = highest(plan.declared).ok_or(Refusal::NoTaskDeclared)?;
+        refuse_if(self.set.size() <= top, Refusal::SetTooSmall)?;
+        refuse_if(self.set.highest().is_some(), Refusal::SetNotEmpty)?;
         self.core.fit(plan);
         Ok(self.steady(None))
     }

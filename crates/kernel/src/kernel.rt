@@ -55,14 +55,10 @@ impl<R: WaitingSet> Kernel<R> {
         ensures after { (meaning R.room R.holds self.new).schedule ≡ started (due (meaning R.room R.holds self.old).schedule) (meaning R.room R.holds self.old).schedule }
         ensures marks { (meaning R.room R.holds self.new).marks ≡ (meaning R.room R.holds self.old).marks }
     {
-        let word = match self.dispatch() {
-            Some(_) => Word::Started,
-            None => otherwise,
-        };
+        let word = self.dispatch().map_or(otherwise, |_| Word::Started);
         Reply {
-            running: self.core.chain.running(),
             word,
-            mark: None,
+            ..self.steady(None)
         }
     }
 

@@ -38,10 +38,8 @@ impl Core {
     pub(crate) fn any_unregistered(&self, e: u16, v: Option<u64>) -> bool
         ensures { result ≡ stray v (registered_of self.now.plan e) }
     {
-        match v {
-            Some(w) => strays(w, self.registered(e)),
-            None => false,
-        }
+        let registered = self.registered(e);
+        v.is_some_and(|w| strays(w, registered))
     }
 
     // The tasks that a signal of event e means.
@@ -54,14 +52,13 @@ impl Core {
     }
 
     // Whether task t is marked for event e.
+    #[tactic(auto, using(crate::proofs::Marking::past_end))]
     pub(crate) fn marked(&self, e: u16, t: u8) -> bool
         ensures { result ≡ marks_in self.now e t }
     {
-        if e < 32 {
-            contains(self.marks[e as usize], t)
-        } else {
-            false
-        }
+        self.marks
+            .get(usize::from(e))
+            .is_some_and(|v| contains(*v, t))
     }
 
     // Sets the marks of the tasks in v for event e.
@@ -69,7 +66,7 @@ impl Core {
         requires { e < 32 }
         ensures { Remarked self.old self.new (marked_too e (in_vector v) (marks_in self.old)) }
     {
-        self.marks[e as usize] |= v;
+        self.marks[usize::from(e)] |= v;
     }
 
     // Clears the mark of task t for event e.
@@ -78,6 +75,6 @@ impl Core {
         requires task { t < 64 }
         ensures { Remarked self.old self.new (unmarked e t (marks_in self.old)) }
     {
-        self.marks[e as usize] &= !(1 << t);
+        self.marks[usize::from(e)] &= !(1 << t);
     }
 }

@@ -37,14 +37,11 @@ impl<R: WaitingSet> Kernel<R> {
     pub fn waiting(&self) -> u64
         ensures { result ≡ vector_of 64 (meaning R.room R.holds self.now).schedule.waiting }
     {
-        let v = self.with_row(0, 0);
-        let v = self.with_row(v, 8);
-        let v = self.with_row(v, 16);
-        let v = self.with_row(v, 24);
-        let v = self.with_row(v, 32);
-        let v = self.with_row(v, 40);
-        let v = self.with_row(v, 48);
-        self.with_row(v, 56)
+        let mut members = 0;
+        for row in 0..8 {
+            members = self.with_row(members, 8 * row);
+        }
+        members
     }
 
     // The holder of resource r.

@@ -5,6 +5,7 @@ ghost use Rattle.machine.specs.Machine.{step, answer as answer_to};
 ghost use Rattle.kernel.specs.Meaning.{meaning};
 
 use crate::kernel::Kernel;
+use crate::refuse::refuse_if;
 use machine::{Refusal, Reply, Word};
 use sets::waiting::WaitingSet;
 
@@ -14,18 +15,10 @@ impl<R: WaitingSet> Kernel<R> {
         ensures after { meaning R.room R.holds self.new ≡ step (Lock r) (meaning R.room R.holds self.old) }
         ensures value { result ≡ answer_to (Lock r) (meaning R.room R.holds self.old) }
     {
-        let Some(t) = self.core.chain.running() else {
-            return Err(Refusal::NoTaskRuns);
-        };
-        if self.core.resources() <= r {
-            return Err(Refusal::NotDeclared);
-        }
-        if !self.core.may_lock(r, t) {
-            return Err(Refusal::NotEntitled);
-        }
-        if self.core.held.has(r) {
-            return Err(Refusal::AlreadyHeld);
-        }
+        let t = self.core.running()?;
+        refuse_if(self.core.resources() <= r, Refusal::NotDeclared)?;
+        refuse_if(!self.core.may_lock(r, t), Refusal::NotEntitled)?;
+        refuse_if(self.core.held.has(r), Refusal::AlreadyHeld)?;
         self.core.lock(r, t);
         Ok(self.steady(None))
     }
@@ -35,18 +28,10 @@ impl<R: WaitingSet> Kernel<R> {
         ensures after { meaning R.room R.holds self.new ≡ step (Unlock r) (meaning R.room R.holds self.old) }
         ensures value { result ≡ answer_to (Unlock r) (meaning R.room R.holds self.old) }
     {
-        let Some(t) = self.core.chain.running() else {
-            return Err(Refusal::NoTaskRuns);
-        };
-        if self.core.resources() <= r {
-            return Err(Refusal::NotDeclared);
-        }
-        if !self.core.held_by(r, t) {
-            return Err(Refusal::NotHolder);
-        }
-        if !self.core.locked_last(r) {
-            return Err(Refusal::LaterLockHeld);
-        }
+        let t = self.core.running()?;
+        refuse_if(self.core.resources() <= r, Refusal::NotDeclared)?;
+        refuse_if(!self.core.held_by(r, t), Refusal::NotHolder)?;
+        refuse_if(!self.core.locked_last(r), Refusal::LaterLockHeld)?;
         self.core.unlock();
         Ok(self.settle(Word::Same))
     }

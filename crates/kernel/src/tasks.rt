@@ -5,6 +5,7 @@ ghost use Rattle.machine.specs.Machine.{step, answer as answer_to};
 ghost use Rattle.kernel.specs.Meaning.{meaning};
 
 use crate::kernel::Kernel;
+use crate::refuse::refuse_if;
 use machine::{Refusal, Reply, Word};
 use sets::waiting::WaitingSet;
 
@@ -14,9 +15,7 @@ impl<R: WaitingSet> Kernel<R> {
         ensures after { meaning R.room R.holds self.new ≡ step (Release v) (meaning R.room R.holds self.old) }
         ensures value { result ≡ answer_to (Release v) (meaning R.room R.holds self.old) }
     {
-        if self.core.any_undeclared(v) {
-            return Err(Refusal::ForeignTask);
-        }
+        refuse_if(self.core.any_undeclared(v), Refusal::ForeignTask)?;
         self.admit(v);
         Ok(self.settle(Word::Same))
     }
@@ -26,17 +25,11 @@ impl<R: WaitingSet> Kernel<R> {
         ensures after { meaning R.room R.holds self.new ≡ step Exit (meaning R.room R.holds self.old) }
         ensures value { result ≡ answer_to Exit (meaning R.room R.holds self.old) }
     {
-        let Some(_) = self.core.chain.running() else {
-            return Err(Refusal::NoTaskRuns);
-        };
-        if self.core.running_holds() {
-            return Err(Refusal::StillHolding);
-        }
+        self.core.running()?;
+        refuse_if(self.core.running_holds(), Refusal::StillHolding)?;
         self.core.end_running();
-        let otherwise = match self.core.chain.running() {
-            Some(_) => Word::Resumed,
-            None => Word::Idle,
-        };
+        let below = self.core.chain.running();
+        let otherwise = below.map_or(Word::Idle, |_| Word::Resumed);
         Ok(self.settle(otherwise))
     }
 }
