@@ -3,13 +3,13 @@ ghost use Rattle.std.specs.Prelude.{◌≡◌, ℕ, ◌<◌, ◌≤◌, Bool, tr
 ghost use Rattle.vectors.specs.Vectors.{in_vector, strays as strays_from};
 ghost use Rattle.plan.specs.Plans.{reaches};
 ghost use Rattle.machine.specs.Schedules.{head, tail, newest, holder as holder_in, system_ceiling_under};
-ghost use Rattle.machine.specs.Refusals.{present, absent, same, tasks_of, resources_of, may_lock, holds_some};
+ghost use Rattle.machine.specs.Refusals.{present, absent, same, tasks_of, resources_of, may_lock as may_lock_in, holds_some};
 ghost use Rattle.std.specs.Option.{ok_or};
 ghost use Rattle.machine.specs.declared.Refusal.TheVariants.{NoTaskRuns};
 ghost use Rattle.machine.specs.History.{ceiling_under};
 ghost use Rattle.machine.specs.Shapes.{Falling};
 ghost use Rattle.kernel.specs.Lists.{entries};
-ghost use Rattle.kernel.specs.Changes.{may_start, Blank, Fitted, Rechained, Reheld};
+ghost use Rattle.kernel.specs.Changes.{may_start as may_start_in, Blank, Fitted, Rechained, Reheld};
 
 use crate::held_lock::HeldLock;
 use crate::state::{Chain, Core, HeldList};
@@ -70,7 +70,7 @@ impl Core {
 
     // Whether task t is a user of resource r.
     pub(crate) fn may_lock(&self, r: u16, t: u8) -> bool
-        ensures { result ≡ may_lock self.now.plan r (Some t) }
+        ensures { result ≡ may_lock_in self.now.plan r (Some t) }
     {
         self.plan
             .as_ref()
@@ -93,7 +93,7 @@ impl Core {
 
     // Whether task w exceeds the running task and the system ceiling, under a plan.
     pub(crate) fn may_start(&self, w: u8) -> bool
-        ensures { result ≡ may_start self.now.plan self.now.chain (entries self.now.held) w }
+        ensures { result ≡ may_start_in self.now.plan self.now.chain (entries self.now.held) w }
     {
         self.has_plan() && self.chain.running() < Some(w) && self.system_ceiling() < Some(w)
     }

@@ -6,7 +6,7 @@ ghost use Rattle.machine.specs.Schedules.{due, started, moved};
 ghost use Rattle.machine.specs.Machine.{fresh};
 ghost use Rattle.machine.specs.Laws.{Set};
 ghost use Rattle.kernel.specs.Parts.{marks_in};
-ghost use Rattle.kernel.specs.Meaning.{schedule_of, meaning, told, steady};
+ghost use Rattle.kernel.specs.Meaning.{schedule_of, meaning, told, steady as steady_reply};
 
 use crate::state::Core;
 use machine::{Reply, Word};
@@ -64,7 +64,7 @@ impl<R: WaitingSet> Kernel<R> {
 
     // The answer of a call that starts nothing.
     pub(crate) fn steady(&self, mark: Option<bool>) -> Reply
-        ensures { result ≡ steady self.now.core.chain mark }
+        ensures { result ≡ steady_reply self.now.core.chain mark }
     {
         Reply {
             running: self.core.chain.running(),

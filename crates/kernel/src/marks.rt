@@ -2,7 +2,7 @@
 ghost use Rattle.std.specs.Prelude.{◌≡◌, ℕ, ◌<◌, ◌≤◌, Bool, true, false, Some, None};
 ghost use Rattle.vectors.specs.Vectors.{in_vector};
 ghost use Rattle.machine.specs.Moves.{meant_under};
-ghost use Rattle.machine.specs.Refusals.{events_of, registered_of, may_test, stray};
+ghost use Rattle.machine.specs.Refusals.{events_of, registered_of, may_test as may_test_in, stray};
 ghost use Rattle.kernel.specs.Parts.{marks_in};
 ghost use Rattle.kernel.specs.Changes.{marked_too, unmarked, Remarked};
 
@@ -27,7 +27,7 @@ impl Core {
 
     // Whether task t is registered for event e.
     pub(crate) fn may_test(&self, e: u16, t: u8) -> bool
-        ensures { result ≡ may_test self.now.plan e (Some t) }
+        ensures { result ≡ may_test_in self.now.plan e (Some t) }
     {
         self.plan
             .as_ref()

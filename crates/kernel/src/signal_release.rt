@@ -5,7 +5,6 @@ ghost use Rattle.machine.specs.Machine.{step, answer as answer_to};
 ghost use Rattle.kernel.specs.Meaning.{meaning};
 
 use crate::kernel::Kernel;
-use crate::refuse::refuse_if;
 use machine::{Refusal, Reply, Word};
 use sets::waiting::WaitingSet;
 
@@ -15,10 +14,7 @@ impl<R: WaitingSet> Kernel<R> {
         ensures after { meaning R.room R.holds self.new ≡ step (SignalRelease e v) (meaning R.room R.holds self.old) }
         ensures value { result ≡ answer_to (SignalRelease e v) (meaning R.room R.holds self.old) }
     {
-        refuse_if(self.core.events() <= e, Refusal::NotDeclared)?;
-        refuse_if(self.core.any_unregistered(e, v), Refusal::ForeignTask)?;
-        let meant = self.core.meant(e, v);
-        self.core.set_marks(e, meant);
+        let meant = self.mark_meant(e, v)?;
         self.admit(meant);
         Ok(self.settle(Word::Same))
     }
