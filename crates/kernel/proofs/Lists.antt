@@ -1,10 +1,8 @@
 -- One entry more and one less in the chain and in the held list.
-use Rattle.std.proofs.lemmas.List.{reverse-append}
-use Rattle.std.proofs.Math.Seq.{take-suc}
 use Rattle.std.proofs.lemmas.Map.Keys.{IsDistinct-cons}
 use Rattle.std.proofs.lemmas.Map.Steps.{length-le_from_distinct_below}
 use Rattle.std.specs.List.{AllByRecursion, IsDistinct, list_any}
-use Rattle.std.proofs.Common.{reverse, take, get_or, ◌≡◌, ℕ, suc, add-one, ◌+◌, ◌-◌, ◌<◌, ◌≤◌, Bool, true, false, cond, not, ◌&&◌, ◌||◌, eqb, List, [], ◌∷◌, length, Some, None, Option, sym, refl, ap, ◌∙◌, subst, ⊎_elim, arith}
+use Rattle.std.proofs.Common.{◌≡◌, ℕ, suc, ◌-◌, ◌<◌, ◌≤◌, Bool, true, false, cond, not, ◌&&◌, ◌||◌, eqb, List, [], ◌∷◌, length, Some, None, Option, sym, refl, ap, ◌∙◌, subst, ⊎_elim, arith}
 use lib.Bits.{bit_and, bit_or}
 use Rattle.std.proofs.lemmas.Bool.{both_ways, cases_eq, eq-eqb, ne_eqb, cases_Bool, or_left, or_from, or_cases, and_parts, eqb-true}
 use Rattle.vectors.proofs.Bits.{shifted}
@@ -130,11 +128,6 @@ held_room ls v r h small free =
 
     below : (q : ℕ) → present (holder (entries ls) q) ≡ true → q < 32
     below q e = here q (holder (entries ls) q) refl e
-
--- the locks read from the newest back
-
-pub newest_taken : (xs : List HeldLock) (n : ℕ) (d : HeldLock) → n < length xs → reverse (take (n + 1) xs) ≡ get_or xs n d ∷ reverse (take n xs)
-newest_taken xs n d l = rw add-one (ap reverse (take-suc xs n d l) ∙ reverse-append (take n xs) (get_or xs n d ∷ []))
 
 -- holders and the chain
 

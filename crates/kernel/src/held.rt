@@ -32,15 +32,9 @@ impl HeldList {
     pub(crate) fn holder(&self, r: u16) -> Option<u8>
         ensures { result ≡ holder_in (entries self.now) r }
     {
-        let mut i = self.locks.len();
-        while i > 0 {
-            let lock = self.locks[i - 1];
-            if u16::from(lock.resource) == r {
-                return Some(lock.holder);
-            }
-            i -= 1;
-        }
-        None
+        let locks = self.locks.as_slice();
+        let found = locks.iter().rev().find(|lock| u16::from(lock.resource) == r);
+        found.map(|lock| lock.holder)
     }
 
     // The newest lock, whose holder is below no other.

@@ -1,4 +1,4 @@
-use Rattle.std.proofs.Common.{◌≡◌, ◌*◌, ◌^◌, ◌<◌, ◌≤◌}
+use Rattle.std.proofs.Common.{◌≡◌, ◌*◌, ◌^◌, ◌<◌}
 use Rattle.vectors.specs.Vectors.{in_vector}
 use Rattle.kernel.specs.Parts.{below}
 use Rattle.kernel.proofs.kernel.Kernel.waiting.Given as goal

@@ -1,4 +1,4 @@
-use Rattle.std.proofs.Common.{refl, ap, sym, ◌∙◌, rules, ◌≡◌, None, Some, ℕ, Bool, Option, false}
+use Rattle.std.proofs.Common.{ap, ◌∙◌, rules, ◌≡◌, None, Some, ℕ, Bool, Option, false}
 use Rattle.std.specs.Option.{MatchOption}
 use Rattle.vectors.specs.Vectors.{in_vector, strays}
 use Rattle.machine.specs.Refusals.{registered_of, stray}
