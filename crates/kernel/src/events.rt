@@ -5,8 +5,8 @@ ghost use Rattle.vectors.specs.Vectors.{in_vector};
 ghost use Rattle.machine.specs.declared.Call.TheVariants.{Signal, Test};
 ghost use Rattle.machine.specs.Moves.{meant_under};
 ghost use Rattle.machine.specs.Refusals.{refusal};
-ghost use Rattle.machine.specs.Machine.{step, answer as answer_to};
-ghost use Rattle.kernel.specs.Meaning.{meaning};
+ghost use Rattle.machine.specs.Machine.{step};
+ghost use Rattle.kernel.specs.Meaning.{meaning, Follows};
 
 use crate::kernel::Kernel;
 use crate::refuse::refuse_if;
@@ -29,8 +29,7 @@ impl<R: WaitingSet> Kernel<R> {
 
     // Sets the marks of the tasks meant for event e.
     pub fn signal(&mut self, e: u16, v: Option<u64>) -> Result<Reply, Refusal>
-        ensures after { meaning R.room R.holds self.new ≡ step (Signal e v) (meaning R.room R.holds self.old) }
-        ensures value { result ≡ answer_to (Signal e v) (meaning R.room R.holds self.old) }
+        ensures { Follows R.room R.holds (Signal e v) self.old self.new result }
     {
         self.mark_meant(e, v)?;
         Ok(self.steady(None))
@@ -38,8 +37,7 @@ impl<R: WaitingSet> Kernel<R> {
 
     // Tells the running task's mark for event e, and clears it.
     pub fn test(&mut self, e: u16) -> Result<Reply, Refusal>
-        ensures after { meaning R.room R.holds self.new ≡ step (Test e) (meaning R.room R.holds self.old) }
-        ensures value { result ≡ answer_to (Test e) (meaning R.room R.holds self.old) }
+        ensures { Follows R.room R.holds (Test e) self.old self.new result }
     {
         let t = self.core.running()?;
         refuse_if(self.core.events() <= e, Refusal::NotDeclared)?;

@@ -1,8 +1,6 @@
 // Install: the kernel gets its plan. The tests of each call stand in the order of the refusal table, here as in the other calls.
-ghost use Rattle.std.specs.Prelude.{◌≡◌, Bool};
 ghost use Rattle.machine.specs.declared.Call.TheVariants.{Install};
-ghost use Rattle.machine.specs.Machine.{step, answer as answer_to};
-ghost use Rattle.kernel.specs.Meaning.{meaning};
+ghost use Rattle.kernel.specs.Meaning.{Follows};
 
 use crate::kernel::Kernel;
 use crate::refuse::refuse_if;
@@ -14,8 +12,7 @@ use vectors::highest;
 impl<R: WaitingSet> Kernel<R> {
     // Gives the kernel its plan, with all marks clear.
     pub fn install(&mut self, plan: &Plan) -> Result<Reply, Refusal>
-        ensures after { meaning R.room R.holds self.new ≡ step (Install plan.now) (meaning R.room R.holds self.old) }
-        ensures value { result ≡ answer_to (Install plan.now) (meaning R.room R.holds self.old) }
+        ensures { Follows R.room R.holds (Install plan.now) self.old self.new result }
     {
         refuse_if(self.core.has_plan(), Refusal::AlreadyInstalled)?;
         let top = highest(plan.declared).ok_or(Refusal::NoTaskDeclared)?;

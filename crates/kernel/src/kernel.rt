@@ -5,8 +5,7 @@ ghost use Rattle.machine.specs.Moves.{release as releasing};
 ghost use Rattle.machine.specs.Schedules.{due, started, moved};
 ghost use Rattle.machine.specs.Machine.{fresh};
 ghost use Rattle.machine.specs.Laws.{Set};
-ghost use Rattle.kernel.specs.Parts.{marks_in};
-ghost use Rattle.kernel.specs.Meaning.{schedule_of, meaning, told, steady as steady_reply};
+ghost use Rattle.kernel.specs.Meaning.{meaning, told, steady as steady_reply};
 
 use crate::state::Core;
 use machine::{Reply, Word};
@@ -34,9 +33,9 @@ impl<R: WaitingSet> Kernel<R> {
 
     // Starts the highest waiting task where it exceeds the running task and the system ceiling.
     fn dispatch(&mut self) -> Option<u8>
-        ensures value { result ≡ due (schedule_of self.old.core (R.room self.old.set) (R.holds self.old.set)) }
-        ensures after { schedule_of self.new.core (R.room self.new.set) (R.holds self.new.set) ≡ started result (schedule_of self.old.core (R.room self.old.set) (R.holds self.old.set)) }
-        ensures marks { marks_in self.new.core ≡ marks_in self.old.core }
+        ensures value { result ≡ due (meaning R.room R.holds self.old).schedule }
+        ensures after { (meaning R.room R.holds self.new).schedule ≡ started result (meaning R.room R.holds self.old).schedule }
+        ensures marks { (meaning R.room R.holds self.new).marks ≡ (meaning R.room R.holds self.old).marks }
     {
         let Some(w) = self.set.highest() else {
             return None;

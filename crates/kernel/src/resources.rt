@@ -1,8 +1,6 @@
 // Lock and unlock.
-ghost use Rattle.std.specs.Prelude.{◌≡◌, Bool};
 ghost use Rattle.machine.specs.declared.Call.TheVariants.{Lock, Unlock};
-ghost use Rattle.machine.specs.Machine.{step, answer as answer_to};
-ghost use Rattle.kernel.specs.Meaning.{meaning};
+ghost use Rattle.kernel.specs.Meaning.{Follows};
 
 use crate::kernel::Kernel;
 use crate::refuse::refuse_if;
@@ -12,8 +10,7 @@ use sets::waiting::WaitingSet;
 impl<R: WaitingSet> Kernel<R> {
     // Locks resource r for the running task.
     pub fn lock(&mut self, r: u16) -> Result<Reply, Refusal>
-        ensures after { meaning R.room R.holds self.new ≡ step (Lock r) (meaning R.room R.holds self.old) }
-        ensures value { result ≡ answer_to (Lock r) (meaning R.room R.holds self.old) }
+        ensures { Follows R.room R.holds (Lock r) self.old self.new result }
     {
         let t = self.core.running()?;
         refuse_if(self.core.resources() <= r, Refusal::NotDeclared)?;
@@ -25,8 +22,7 @@ impl<R: WaitingSet> Kernel<R> {
 
     // Undoes the running task's lock of resource r, which has to be the newest.
     pub fn unlock(&mut self, r: u16) -> Result<Reply, Refusal>
-        ensures after { meaning R.room R.holds self.new ≡ step (Unlock r) (meaning R.room R.holds self.old) }
-        ensures value { result ≡ answer_to (Unlock r) (meaning R.room R.holds self.old) }
+        ensures { Follows R.room R.holds (Unlock r) self.old self.new result }
     {
         let t = self.core.running()?;
         refuse_if(self.core.resources() <= r, Refusal::NotDeclared)?;

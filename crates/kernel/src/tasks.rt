@@ -1,8 +1,6 @@
 // Release and exit: tasks come and go.
-ghost use Rattle.std.specs.Prelude.{◌≡◌, Bool};
 ghost use Rattle.machine.specs.declared.Call.TheVariants.{Release, Exit};
-ghost use Rattle.machine.specs.Machine.{step, answer as answer_to};
-ghost use Rattle.kernel.specs.Meaning.{meaning};
+ghost use Rattle.kernel.specs.Meaning.{Follows};
 
 use crate::kernel::Kernel;
 use crate::refuse::refuse_if;
@@ -12,8 +10,7 @@ use sets::waiting::WaitingSet;
 impl<R: WaitingSet> Kernel<R> {
     // Releases the tasks of v; one that waits or has started is absorbed.
     pub fn release(&mut self, v: u64) -> Result<Reply, Refusal>
-        ensures after { meaning R.room R.holds self.new ≡ step (Release v) (meaning R.room R.holds self.old) }
-        ensures value { result ≡ answer_to (Release v) (meaning R.room R.holds self.old) }
+        ensures { Follows R.room R.holds (Release v) self.old self.new result }
     {
         refuse_if(self.core.any_undeclared(v), Refusal::ForeignTask)?;
         self.admit(v);
@@ -22,8 +19,7 @@ impl<R: WaitingSet> Kernel<R> {
 
     // Ends the running task.
     pub fn exit(&mut self) -> Result<Reply, Refusal>
-        ensures after { meaning R.room R.holds self.new ≡ step Exit (meaning R.room R.holds self.old) }
-        ensures value { result ≡ answer_to Exit (meaning R.room R.holds self.old) }
+        ensures { Follows R.room R.holds Exit self.old self.new result }
     {
         self.core.running()?;
         refuse_if(self.core.running_holds(), Refusal::StillHolding)?;
