@@ -13,7 +13,7 @@ use Rattle.machine.specs.Schedules.{head, tail, among, holder, holds_any, system
 use Rattle.machine.specs.Refusals.{present, same, holds_some}
 use Rattle.machine.specs.Shapes.{Falling, Single, Nested}
 use Rattle.laws.proofs.Sets.{some_none}
-use Rattle.laws.proofs.Lists.{among_cases, among_here, among_there, holder_here, holder_cases, holder_older, holds_none}
+use Rattle.laws.proofs.Lists.{over_chain, among_cases, among_here, among_there, holder_here, holder_cases, holder_older, holds_none}
 use Rattle.kernel.specs.declared.held_lock.HeldLock.{HeldLock}
 use Rattle.kernel.specs.Lists.{IsChain, entries, IsHeldList, Placed, keeps_levels}
 
@@ -21,13 +21,6 @@ use Rattle.kernel.specs.Lists.{IsChain, entries, IsHeldList, Placed, keeps_level
 
 pub no_chain : IsChain [] 0
 no_chain = record { falling = tt; small = λ t e. absurd (both_ways false refl e); noted = in_none }
-
--- a task above the newest is above all
-pub over_all : (xs : List ℕ) (w : ℕ) → Falling xs → reaches (head xs) w ≡ false → (t : ℕ) → among xs t ≡ true → t < w
-over_all [] w f e t a = absurd (both_ways false refl a)
-over_all (x ∷ xs) w f e t a =
-    let l : x < w = grind (arith, e) in
-    ⊎_elim (λ (q : t ≡ x). omega arith) (λ (q : among xs t ≡ true). let z : t < x = f.0 t q in omega arith) (among_cases x xs t a)
 
 -- a falling list is no longer than what is above its newest
 pub chain_room : (xs : List ℕ) (w : ℕ) → Falling xs → ((t : ℕ) → among xs t ≡ true → t < w) → length xs ≤ w
@@ -39,7 +32,7 @@ chain_room (x ∷ xs) w f h =
 
 pub chain_push : (xs : List ℕ) (v w : ℕ) → IsChain xs v → w < 64 → reaches (head xs) w ≡ false → IsChain (w ∷ xs) (bit_or v (shifted 64 w))
 chain_push xs v w c small e = record {
-  falling = (over_all xs w c.falling e, c.falling);
+  falling = (over_chain xs c.falling w e, c.falling);
   small = λ t a. ⊎_elim (λ (q : t ≡ w). omega arith) (λ (q : among xs t ≡ true). c.small t q) (among_cases w xs t a);
   noted = λ t. ap (λ f. f t) (code_with v w small) ∙ ap (λ b. eqb t w || b) (c.noted t);
 }
@@ -57,35 +50,24 @@ chain_pop x v xs c =
 
 -- held lists
 
-pub nothing_held : IsHeldList [] 0
-nothing_held = record { single = tt; nested = tt; small = λ r k e. absurd (some_none k None e refl); noted = in_none }
+pub nothing_held : IsHeldList []
+nothing_held = record { single = tt; nested = tt; small = λ r k e. absurd (some_none k None e refl) }
 
-pub locked_more : (l : HeldLock) (ls : List HeldLock) (v : ℕ) → IsHeldList ls v → l.resource < 32 → holder (entries ls) l.resource ≡ None
-    → ((r k : ℕ) → holder (entries ls) r ≡ Some k → k ≤ l.holder) → IsHeldList (l ∷ ls) (bit_or v (shifted 64 l.resource))
-locked_more l ls v h small free above = record {
+pub locked_more : (l : HeldLock) (ls : List HeldLock) → IsHeldList ls → l.resource < 32 → holder (entries ls) l.resource ≡ None
+    → ((r k : ℕ) → holder (entries ls) r ≡ Some k → k ≤ l.holder) → IsHeldList (l ∷ ls)
+locked_more l ls h small free above = record {
   single = (free, h.single);
   nested = (above, h.nested);
   small = λ r k e. ⊎_elim (λ (z : (r ≡ l.resource) × (l.holder ≡ k)). omega (arith, z.0)) (λ (z : (r ≡ l.resource → ⊥) × (holder (entries ls) r ≡ Some k)). h.small r k z.1)
       (holder_cases (l.resource, l.holder) (entries ls) r k e);
-  noted = λ r. ap (λ f. f r) (code_with v l.resource (omega arith)) ∙ ap (λ b. eqb r l.resource || b) (h.noted r) ∙ more (eqb r l.resource) (holder (entries ls) r);
 }
-  where
-    more : (b : Bool) (o : Option ℕ) → (b || present o) ≡ present (cond b (Some l.holder) o)
-    more true o = refl
-    more false o = refl
 
-pub locked_less : (l : HeldLock) (ls : List HeldLock) (v : ℕ) → IsHeldList (l ∷ ls) v → IsHeldList ls (bit_and v (18446744073709551615 - shifted 64 l.resource))
-locked_less l ls v h =
-    let r0 : ℕ = l.resource in
-    let here : holder (entries (l ∷ ls)) r0 ≡ Some l.holder = holder_here r0 l.holder (entries ls) r0 refl in
-    record {
-      single = h.single.1;
-      nested = h.nested.1;
-      small = λ r k e. h.small r k (holder_older (r0, l.holder) (entries ls) h.single r k e);
-      noted = λ r. ap (λ f. f r) (code_without v r0 (let q = h.small r0 l.holder here in omega arith)) ∙ ap (λ b. not (eqb r r0) && b) (h.noted r)
-          ∙ ⊎_elim (λ (q : r ≡ r0). ap (λ b. not b && present (cond b (Some l.holder) (holder (entries ls) r))) (eq-eqb r r0 q) ∙ sym (ap present (ap (holder (entries ls)) q ∙ h.single.0)))
-          (λ (ne : r ≡ r0 → ⊥). ap (λ b. not b && present (cond b (Some l.holder) (holder (entries ls) r))) (ne_eqb r r0 ne)) (cases_eq r r0);
-    }
+pub locked_less : (l : HeldLock) (ls : List HeldLock) → IsHeldList (l ∷ ls) → IsHeldList ls
+locked_less l ls h = record {
+  single = h.single.1;
+  nested = h.nested.1;
+  small = λ r k e. h.small r k (holder_older (l.resource, l.holder) (entries ls) h.single r k e);
+}
 
 -- the locks are as many as their resources, which are apart and below 32
 abbrev locked : List HeldLock → List ℕ
@@ -116,8 +98,8 @@ unfolding IsDistinct
 distinct [] h = tt
 distinct (l ∷ ls) h = (lacks ls l.resource h.0, distinct ls h.1)
 
-pub held_room : (ls : List HeldLock) (v r : ℕ) → IsHeldList ls v → r < 32 → holder (entries ls) r ≡ None → length ls < 32
-held_room ls v r h small free =
+pub held_room : (ls : List HeldLock) (r : ℕ) → IsHeldList ls → r < 32 → holder (entries ls) r ≡ None → length ls < 32
+held_room ls r h small free =
     let n = length-le_from_distinct_below (r ∷ locked ls) 32 (IsDistinct-cons eqb r (locked ls) (lacks ls r free) (distinct ls h.single)) (λ q e. ⊎_elim (λ (z : q ≡ r). omega arith)
     (λ (z : q ≡ r → ⊥). below q (sym (locked_any ls q) ∙ ap (λ b. b || list_any (eqb q) (locked ls)) (sym (ne_eqb q r z)) ∙ e)) (cases_eq q r)) in
     omega (arith, n, length_locked ls)

@@ -3,7 +3,7 @@ use Rattle.std.specs.Prelude.{◌≡◌, ℕ, ◌<◌, Bool, true, ◌&&◌, Lis
 use Rattle.vectors.specs.Vectors.{in_vector}
 use Rattle.plan.specs.declared.record.Plan.{Plan}
 use Rattle.machine.specs.Schedules.{among, holder, system_ceiling_under}
-use Rattle.machine.specs.Refusals.{present, same}
+use Rattle.machine.specs.Refusals.{same}
 use Rattle.machine.specs.Shapes.{Falling, Single, Nested}
 use Rattle.kernel.specs.declared.held_lock.HeldLock.{HeldLock}
 
@@ -18,12 +18,11 @@ abbrev pub entries : List HeldLock → List (ℕ × ℕ)
 entries [] = []
 entries (l ∷ ls) = (l.resource, l.holder) ∷ entries ls
 
--- No resource is held twice, all are below 32, no newer holder is below an older one, and the vector holds the resources.
-pub record IsHeldList (ls : List HeldLock) (taken : ℕ) : Type 0 where
+-- No resource is held twice, all are below 32, and no newer holder is below an older one.
+pub record IsHeldList (ls : List HeldLock) : Type 0 where
   pub single : Single (entries ls)
   pub nested : Nested (entries ls)
   pub small : (r k : ℕ) → holder (entries ls) r ≡ Some k → r < 32
-  pub noted : (r : ℕ) → in_vector taken r ≡ present (holder (entries ls) r)
 
 -- The holders have started.
 abbrev pub Placed : List ℕ → List HeldLock → Type 0

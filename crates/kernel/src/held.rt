@@ -8,7 +8,6 @@ ghost use Rattle.kernel.specs.Lists.{entries};
 use crate::held_lock::HeldLock;
 use crate::state::HeldList;
 use arrayvec::ArrayVec;
-use vectors::contains;
 
 impl HeldList {
     // The list of nothing.
@@ -17,7 +16,6 @@ impl HeldList {
     {
         HeldList {
             locks: ArrayVec::new(),
-            taken: 0,
         }
     }
 
@@ -25,7 +23,7 @@ impl HeldList {
     pub(crate) fn has(&self, r: u16) -> bool
         ensures { result ≡ present (holder_in (entries self.now) r) }
     {
-        r < 64 && contains(self.taken, r as u8)
+        self.holder(r).is_some()
     }
 
     // Who holds resource r.
@@ -33,7 +31,10 @@ impl HeldList {
         ensures { result ≡ holder_in (entries self.now) r }
     {
         let locks = self.locks.as_slice();
-        let found = locks.iter().rev().find(|lock| u16::from(lock.resource) == r);
+        let found = locks
+            .iter()
+            .rev()
+            .find(|lock| u16::from(lock.resource) == r);
         found.map(|lock| lock.holder)
     }
 
@@ -54,7 +55,6 @@ impl HeldList {
         ensures { self.new ≡ lock ∷ self.old }
     {
         self.locks.push(lock);
-        self.taken |= 1 << lock.resource;
     }
 
     // Undoes the newest lock, if there is one.
@@ -62,8 +62,6 @@ impl HeldList {
         ensures after { self.new ≡ tail self.old }
         ensures single { Single (entries self.old) }
     {
-        if let Some(lock) = self.locks.pop() {
-            self.taken &= !(1 << lock.resource);
-        }
+        self.locks.pop();
     }
 }

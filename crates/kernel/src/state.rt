@@ -25,12 +25,11 @@ impl Model for Chain {
     ghost invariant = { λ c. IsChain (reverse c.tasks.items) c.started };
 }
 
-// The held list: the locks not undone, in locking order, and their resources as a vector. No resource is held
-// twice, so that no more than 32 find a place. Contracts see the list of the locks, the newest first.
+// The held list: the locks not undone, in locking order. No resource is held twice, so that no more than 32 find
+// a place. Contracts see the list of the locks, the newest first.
 #[derive(Drop)]
 pub struct HeldList {
     pub(crate) locks: ArrayVec<HeldLock, 32>,
-    pub(crate) taken: u64,
 }
 
 impl Model for HeldList {
@@ -43,7 +42,7 @@ impl Model for HeldList {
 
     ghost view = { λ h. reverse h.locks.items };
 
-    ghost invariant = { λ h. IsHeldList (reverse h.locks.items) h.taken };
+    ghost invariant = { λ h. IsHeldList (reverse h.locks.items) };
 }
 
 ghost use Rattle.std.specs.Prelude.{◌≡◌, Bool, true, false, [], None};

@@ -5,14 +5,15 @@ use Rattle.std.proofs.lemmas.List.{reverse-append, length-reverse}
 use Rattle.plan.specs.Plans.{reaches}
 use Rattle.machine.specs.Schedules.{head}
 use Rattle.kernel.specs.Lists.{IsChain}
-use Rattle.kernel.proofs.Lists.{over_all, chain_room, chain_push}
+use Rattle.laws.proofs.Lists.{over_chain}
+use Rattle.kernel.proofs.Lists.{chain_room, chain_push}
 use Rattle.kernel.proofs.state.Chain.push.Goals as goal
 
 pub push-requires : goal.push-requires
 push-requires c =
     let xs : List ℕ = reverse c.self.inside.tasks.items in
     let above : reaches (head xs) c.args.w ≡ false = subst (λ ys. reaches (head ys) c.args.w ≡ false) (sym c.self.view_is) c.requires.above in
-    let room : length xs ≤ c.args.w = chain_room xs c.args.w c.self.invariant.falling (over_all xs c.args.w c.self.invariant.falling above) in
+    let room : length xs ≤ c.args.w = chain_room xs c.args.w c.self.invariant.falling (over_chain xs c.self.invariant.falling c.args.w above) in
     (omega (arith, length-reverse c.self.inside.tasks.items, c.requires.small), omega (arith, length-reverse c.self.inside.tasks.items, c.requires.small))
 
 pub invariant_of-self : goal.invariant_of-self

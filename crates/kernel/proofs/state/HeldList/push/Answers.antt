@@ -1,6 +1,4 @@
 use Rattle.std.proofs.Common.{◌≡◌, ℕ, ◌<◌, ◌≤◌, List, [], ◌∷◌, length, reverse, None, Some, sym, ap, ◌∙◌, subst, arith}
-use lib.Bits.{bit_or}
-use Rattle.vectors.proofs.Bits.{shifted}
 use Rattle.std.proofs.lemmas.List.{reverse-append, length-reverse}
 use Rattle.machine.specs.Schedules.{holder}
 use Rattle.kernel.specs.declared.held_lock.HeldLock.{HeldLock}
@@ -12,7 +10,7 @@ pub push-requires : goal.push-requires
 push-requires c =
     let xs : List HeldLock = reverse c.self.inside.locks.items in
     let free : holder (entries xs) c.args.lock.resource ≡ None = subst (λ ys. holder (entries ys) c.args.lock.resource ≡ None) (sym c.self.view_is) c.requires.free in
-    let room : length xs < 32 = held_room xs c.self.inside.taken c.args.lock.resource c.self.invariant c.requires.small free in
+    let room : length xs < 32 = held_room xs c.args.lock.resource c.self.invariant c.requires.small free in
     (omega (arith, length-reverse c.self.inside.locks.items), omega (arith, length-reverse c.self.inside.locks.items))
 
 pub invariant_of-self : goal.invariant_of-self
@@ -21,4 +19,4 @@ invariant_of-self c =
     let lock = c.args.lock in
     let free : holder (entries xs) lock.resource ≡ None = subst (λ ys. holder (entries ys) lock.resource ≡ None) (sym c.self.view_is) c.requires.free in
     let above : (r k : ℕ) → holder (entries xs) r ≡ Some k → k ≤ lock.holder = subst (λ ys. (r k : ℕ) → holder (entries ys) r ≡ Some k → k ≤ lock.holder) (sym c.self.view_is) c.requires.above in
-    subst (λ (ys : List HeldLock). IsHeldList ys (bit_or c.self.inside.taken (shifted 64 c.args.lock.resource))) (sym (ap reverse c.push.ensures.items ∙ reverse-append c.self.inside.locks.items (c.args.lock ∷ []))) (locked_more lock xs c.self.inside.taken c.self.invariant c.requires.small free above)
+    subst (λ (ys : List HeldLock). IsHeldList ys) (sym (ap reverse c.push.ensures.items ∙ reverse-append c.self.inside.locks.items (c.args.lock ∷ []))) (locked_more lock xs c.self.invariant c.requires.small free above)
