@@ -72,7 +72,8 @@ impl<R: WaitingSet> Kernel<R> {
         }
     }
 
-    // Puts each task of v that has not started into the waiting set.
+    // Puts each task of v that has not started into the waiting set. An iterator over a vector's tasks would be longer
+    // than the one loop that it served.
     pub(crate) fn admit(&mut self, v: u64)
         ensures after { (meaning R.room R.holds self.new).schedule ≡ moved (releasing (in_vector v)) (meaning R.room R.holds self.old).schedule }
         ensures marks { (meaning R.room R.holds self.new).marks ≡ (meaning R.room R.holds self.old).marks }

@@ -33,7 +33,7 @@ impl<R: WaitingSet> Kernel<R> {
     }
 
     // The waiting tasks as a vector, read from the set. Row by row, since the compiler then joins the questions to
-    // a set that is a vector itself.
+    // a set that is a vector itself: one loop over all 64 took half as many instructions a record again.
     pub fn waiting(&self) -> u64
         ensures { result ≡ vector_of 64 (meaning R.room R.holds self.now).schedule.waiting }
     {

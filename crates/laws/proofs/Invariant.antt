@@ -1,6 +1,6 @@
 -- The invariant: what holds of every schedule that allowed moves lead to. Each move keeps it, and one lemma on dispatch serves them all.
 use Rattle.std.proofs.Common.{◌≡◌, ℕ, ◌<◌, ◌≤◌, Bool, true, false, cond, not, ◌&&◌, ◌||◌, eqb, ltb, ◌⊎◌, List, [], ◌∷◌, Some, None, Option, sym, refl, ap, ◌∙◌, subst, inl, inr, ⊎_elim, arith}
-use Rattle.std.proofs.lemmas.Bool.{both_ways, not-true, not-false, not_from_true, leb-false, le-leb, eqb-true, and_parts, and_cases, and_left, and_right, or_from, or_cases, or_left, or_right, false_from_ne_true}
+use Rattle.std.proofs.lemmas.Bool.{both_ways, not-true, not-false, not_from_true, le-leb, eqb-true, and_parts, and_cases, and_left, and_right, or_from, or_cases, or_left, or_right, false_from_ne_true}
 use Rattle.plan.specs.declared.record.Plan.{Plan}
 use Rattle.vectors.specs.Vectors.{highest}
 use Rattle.plan.specs.Plans.{declares, uses, ceiling, reaches}
