@@ -1,5 +1,3 @@
 pub mod Lists
-pub mod Locking
-pub mod Placing
 pub mod Marking
 pub mod Joining

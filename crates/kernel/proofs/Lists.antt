@@ -1,101 +1,154 @@
--- Sequences of which the first n values are a list, the newest first: what stands in it, one value more, one less.
-use Rattle.std.proofs.Common.{◌≡◌, ℕ, zero, suc, ◌+◌, ◌-◌, ◌<◌, ◌≤◌, Bool, true, false, not, ◌&&◌, ◌||◌, eqb, ◌≢◌, List, ◌∷◌, length, get_or, set, Some, sym, refl, ap, ◌∙◌, subst, ap₂, ⊎_elim, arith, get_or-set_other, get_or-set_same}
+-- One entry more and one less in the chain and in the held list.
+use Rattle.std.proofs.lemmas.Map.Keys.{IsDistinct-cons}
+use Rattle.std.proofs.lemmas.Map.Steps.{length-le_from_distinct_below}
+use Rattle.std.specs.List.{AllByRecursion, IsDistinct, list_any}
+use Rattle.std.proofs.Common.{◌≡◌, ℕ, suc, ◌-◌, ◌<◌, ◌≤◌, Bool, true, false, cond, not, ◌&&◌, ◌||◌, eqb, List, [], ◌∷◌, length, Some, None, Option, sym, refl, ap, ◌∙◌, subst, ⊎_elim, arith}
 use lib.Bits.{bit_and, bit_or}
-use Rattle.std.proofs.lemmas.Bool.{cases_eq, eq-eqb, ne_eqb, or_left, or_right, or_from, leb-false}
-use Rattle.vectors.specs.Vectors.{in_vector}
+use Rattle.std.proofs.lemmas.Bool.{both_ways, cases_eq, eq-eqb, ne_eqb, cases_Bool, or_left, or_from, or_cases, and_parts, eqb-true}
 use Rattle.vectors.proofs.Bits.{shifted}
-use Rattle.vectors.proofs.Vectors.{code_with, code_without}
+use Rattle.vectors.proofs.Vectors.{code_with, code_without, in_none}
+use Rattle.plan.specs.declared.record.Plan.{Plan}
 use Rattle.plan.specs.Plans.{reaches}
-use Rattle.machine.specs.Schedules.{head, tail, among}
-use Rattle.kernel.specs.Lists.{newest_first}
+use Rattle.machine.specs.Schedules.{head, tail, among, holder, holds_any, system_ceiling_under}
+use Rattle.machine.specs.Refusals.{present, same, holds_some}
+use Rattle.machine.specs.Shapes.{Falling, Single, Nested}
+use Rattle.laws.proofs.Sets.{some_none}
+use Rattle.laws.proofs.Lists.{over_chain, among_cases, among_here, among_there, holder_here, holder_cases, holder_older, holds_none}
+use Rattle.kernel.specs.declared.held_lock.HeldLock.{HeldLock}
+use Rattle.kernel.specs.Lists.{IsChain, entries, IsHeldList, Placed, keeps_levels}
 
--- the newest and the others
+-- chains
 
-pub head_is : {A : Type 0} (f : ℕ → A) (n : ℕ) → (n ≡ 0 → ⊥) → head (newest_first f n) ≡ Some (f (n - 1))
-head_is f zero ne = absurd (ne refl)
-head_is f (suc n) ne = ap (λ k. Some (f k)) (omega arith)
+pub no_chain : IsChain [] 0
+no_chain = record { falling = tt; small = λ t e. absurd (both_ways false refl e); noted = in_none }
 
-pub tail_is : {A : Type 0} (f : ℕ → A) (n : ℕ) → 0 < n → newest_first f (n - 1) ≡ tail (newest_first f n)
-tail_is f zero l = absurd (omega arith)
-tail_is f (suc n) l = ap (newest_first f) (omega arith)
+-- a falling list is no longer than what is above its newest
+pub chain_room : (xs : List ℕ) (w : ℕ) → Falling xs → ((t : ℕ) → among xs t ≡ true → t < w) → length xs ≤ w
+chain_room [] w f h = omega arith
+chain_room (x ∷ xs) w f h =
+    let a : x < w = h x (among_here x xs) in
+    let b : length xs ≤ x = chain_room xs x f.1 f.0 in
+    omega arith
 
-pub split : {A : Type 0} (f : ℕ → A) (n : ℕ) → 0 < n → newest_first f n ≡ f (n - 1) ∷ newest_first f (n - 1)
-split f zero l = absurd (omega arith)
-split f (suc n) l = ap (λ k. f k ∷ newest_first f k) (omega arith)
+pub chain_push : (xs : List ℕ) (v w : ℕ) → IsChain xs v → w < 64 → reaches (head xs) w ≡ false → IsChain (w ∷ xs) (bit_or v (shifted 64 w))
+chain_push xs v w c small e = record {
+  falling = (over_chain xs c.falling w e, c.falling);
+  small = λ t a. ⊎_elim (λ (q : t ≡ w). omega arith) (λ (q : among xs t ≡ true). c.small t q) (among_cases w xs t a);
+  noted = λ t. ap (λ f. f t) (code_with v w small) ∙ ap (λ b. eqb t w || b) (c.noted t);
+}
 
--- only the first n values count
-pub kept : {A : Type 0} (f g : ℕ → A) (n : ℕ) → ((i : ℕ) → i < n → g i ≡ f i) → newest_first g n ≡ newest_first f n
-kept f g zero h = refl
-kept f g (suc n) h = ap₂ (λ x xs. x ∷ xs) (h n (omega arith)) (kept f g n (λ i l. h i (omega arith)))
+pub chain_pop : (x v : ℕ) (xs : List ℕ) → IsChain (x ∷ xs) v → IsChain xs (bit_and v (18446744073709551615 - shifted 64 x))
+chain_pop x v xs c =
+    let free : among xs x ≡ false = ⊎_elim (λ a. let z : x < x = c.falling.0 x a in absurd (omega arith)) (λ a. a) (cases_Bool (among xs x)) in
+    record {
+      falling = c.falling.1;
+      small = λ t a. c.small t (among_there x xs t a);
+      noted = λ t. ap (λ f. f t) (code_without v x (c.small x (among_here x xs))) ∙ ap (λ b. not (eqb t x) && b) (c.noted t)
+          ∙ ⊎_elim (λ (q : t ≡ x). ap (λ b. not b && (b || among xs t)) (eq-eqb t x q) ∙ sym (ap (among xs) q ∙ free))
+          (λ (ne : t ≡ x → ⊥). ap (λ b. not b && (b || among xs t)) (ne_eqb t x ne)) (cases_eq t x);
+    }
 
-pub pushed : {A : Type 0} (f g : ℕ → A) (n : ℕ) (x : A) → ((i : ℕ) → i < n → g i ≡ f i) → g n ≡ x → newest_first g (suc n) ≡ x ∷ newest_first f n
-pushed f g n x h e = ap₂ (λ y ys. y ∷ ys) e (kept f g n h)
+-- held lists
 
--- an array written behind its first n entries
-pub written_here : {A : Type 0} (xs : List A) (n : ℕ) (x d : A) → n < length xs → get_or (set xs n x) n d ≡ x
-written_here xs n x d l = rw get_or-set_same
+pub nothing_held : IsHeldList []
+nothing_held = record { single = tt; nested = tt; small = λ r k e. absurd (some_none k None e refl) }
 
-pub written_before : {A : Type 0} (xs : List A) (n : ℕ) (x d : A) → (i : ℕ) → i < n → get_or (set xs n x) i d ≡ get_or xs i d
-written_before xs n x d i l = let ne : i ≢ n = omega arith in rw get_or-set_other
+pub locked_more : (l : HeldLock) (ls : List HeldLock) → IsHeldList ls → l.resource < 32 → holder (entries ls) l.resource ≡ None
+    → ((r k : ℕ) → holder (entries ls) r ≡ Some k → k ≤ l.holder) → IsHeldList (l ∷ ls)
+locked_more l ls h small free above = record {
+  single = (free, h.single);
+  nested = (above, h.nested);
+  small = λ r k e. ⊎_elim (λ (z : (r ≡ l.resource) × (l.holder ≡ k)). omega (arith, z.0)) (λ (z : (r ≡ l.resource → ⊥) × (holder (entries ls) r ≡ Some k)). h.small r k z.1)
+      (holder_cases (l.resource, l.holder) (entries ls) r k e);
+}
 
--- what is told of each of n places, and of one more
+pub locked_less : (l : HeldLock) (ls : List HeldLock) → IsHeldList (l ∷ ls) → IsHeldList ls
+locked_less l ls h = record {
+  single = h.single.1;
+  nested = h.nested.1;
+  small = λ r k e. h.small r k (holder_older (l.resource, l.holder) (entries ls) h.single r k e);
+}
 
-pub one_more : (P : ℕ → Type 0) (n : ℕ) → ((i : ℕ) → i < n → P i) → P n → (i : ℕ) → i < n + 1 → P i
-one_more P n old new i l = ⊎_elim (λ (q : i ≡ n). subst P (sym q) new) (λ (ne : i ≡ n → ⊥). old i (omega arith)) (cases_eq i n)
+-- the locks are as many as their resources, which are apart and below 32
+abbrev locked : List HeldLock → List ℕ
+locked [] = []
+locked (l ∷ ls) = l.resource ∷ locked ls
 
--- numbers among the values
+length_locked : (ls : List HeldLock) → length (locked ls) ≡ length ls
+length_locked [] = refl
+length_locked (l ∷ ls) = ap (λ n. suc n) (length_locked ls)
 
-pub among_at : (f : ℕ → ℕ) (n i t : ℕ) → i < n → f i ≡ t → among (newest_first f n) t ≡ true
-among_at f zero i t l e = absurd (omega arith)
-among_at f (suc n) i t l e = ⊎_elim
-    (λ (q : i ≡ n). or_left (eqb t (f n)) (among (newest_first f n) t) (eq-eqb t (f n) (sym e ∙ ap f q)))
-    (λ (ne : i ≡ n → ⊥). or_right (eqb t (f n)) (among (newest_first f n) t) (among_at f n i t (omega arith) e))
-    (cases_eq i n)
+locked_any : (ls : List HeldLock) (q : ℕ) → list_any (eqb q) (locked ls) ≡ present (holder (entries ls) q)
+locked_any [] q = refl
+locked_any (l ∷ ls) q = go (eqb q l.resource) (locked_any ls q)
+  where
+    go : (b : Bool) → list_any (eqb q) (locked ls) ≡ present (holder (entries ls) q) → (b || list_any (eqb q) (locked ls)) ≡ present (cond b (Some l.holder) (holder (entries ls) q))
+    go true e = refl
+    go false e = e
 
-pub not_among : (f : ℕ → ℕ) (n t : ℕ) → ((i : ℕ) → i < n → f i ≡ t → ⊥) → among (newest_first f n) t ≡ false
-not_among f zero t h = refl
-not_among f (suc n) t h = or_from (eqb t (f n)) (among (newest_first f n) t) (ne_eqb t (f n) (λ q. h n (omega arith) (sym q))) (not_among f n t (λ i l. h i (omega arith)))
+lacks : (ls : List HeldLock) (r : ℕ) → holder (entries ls) r ≡ None → AllByRecursion (λ y. eqb r y ≡ false) (locked ls)
+lacks [] r e = tt
+lacks (l ∷ ls) r e = ⊎_elim
+    (λ (z : eqb r l.resource ≡ true). absurd (some_none l.holder (holder (entries (l ∷ ls)) r) (ap (λ b. cond b (Some l.holder) (holder (entries ls) r)) z) e))
+    (λ (z : eqb r l.resource ≡ false). (z, lacks ls r (sym (ap (λ b. cond b (Some l.holder) (holder (entries ls) r)) z) ∙ e)))
+    (cases_Bool (eqb r l.resource))
 
--- a vector that notes what is among a list, after one number more and one less
-abbrev pub Notes : ℕ → List ℕ → Type 0
-Notes v xs = (t : ℕ) → in_vector v t ≡ among xs t
+distinct : (ls : List HeldLock) → Single (entries ls) → IsDistinct eqb (locked ls)
+unfolding IsDistinct
+distinct [] h = tt
+distinct (l ∷ ls) h = (lacks ls l.resource h.0, distinct ls h.1)
 
-pub noted_more : (v w : ℕ) (xs : List ℕ) → w < 64 → Notes v xs → Notes (bit_or v (shifted 64 w)) (w ∷ xs)
-noted_more v w xs h e t = ap (λ (f : ℕ → Bool). f t) (code_with v w h) ∙ ap (λ b. eqb t w || b) (e t)
+pub held_room : (ls : List HeldLock) (r : ℕ) → IsHeldList ls → r < 32 → holder (entries ls) r ≡ None → length ls < 32
+held_room ls r h small free =
+    let n = length-le_from_distinct_below (r ∷ locked ls) 32 (IsDistinct-cons eqb r (locked ls) (lacks ls r free) (distinct ls h.single)) (λ q e. ⊎_elim (λ (z : q ≡ r). omega arith)
+    (λ (z : q ≡ r → ⊥). below q (sym (locked_any ls q) ∙ ap (λ b. b || list_any (eqb q) (locked ls)) (sym (ne_eqb q r z)) ∙ e)) (cases_eq q r)) in
+    omega (arith, n, length_locked ls)
+  where
+    here : (q : ℕ) (o : Option ℕ) → holder (entries ls) q ≡ o → present o ≡ true → q < 32
+    here q None a b = absurd (both_ways false refl b)
+    here q (Some k) a b = h.small q k a
 
-pub noted_less : (v w : ℕ) (xs : List ℕ) → w < 64 → among xs w ≡ false → Notes v (w ∷ xs) → Notes (bit_and v (18446744073709551615 - shifted 64 w)) xs
-noted_less v w xs h gone e t =
-    ap (λ (f : ℕ → Bool). f t) (code_without v w h) ∙ ap (λ b. not (eqb t w) && b) (e t)
-    ∙ ⊎_elim
-    (λ (q : t ≡ w). ap (λ b. not b && (b || among xs t)) (eq-eqb t w q) ∙ sym (ap (among xs) q ∙ gone))
-    (λ (ne : t ≡ w → ⊥). ap (λ b. not b && (b || among xs t)) (ne_eqb t w ne))
-    (cases_eq t w)
+    below : (q : ℕ) → present (holder (entries ls) q) ≡ true → q < 32
+    below q e = here q (holder (entries ls) q) refl e
 
--- each value is at least as high as its place, and below 64
-abbrev pub Tall : (ℕ → ℕ) → ℕ → Type 0
-Tall f n = (i : ℕ) → i < n → (i ≤ f i) × (f i < 64)
+-- holders and the chain
 
--- each value is above those before it
-abbrev pub Rising : (ℕ → ℕ) → ℕ → Type 0
-Rising f n = (i j : ℕ) → i < j → j < n → f i < f j
+-- who holds anything holds some resource
+holds_what : (xs : List (ℕ × ℕ)) (t : ℕ) → Single xs → holds_any xs t ≡ true → (r : ℕ) × (holder xs r ≡ Some t)
+holds_what [] t s e = absurd (both_ways false refl e)
+holds_what (x ∷ xs) t s e = ⊎_elim
+    (λ (z : eqb t x.1 ≡ true). (x.0, subst (λ (k : ℕ). holder (x ∷ xs) x.0 ≡ Some k) (sym (eqb-true t x.1 z)) (holder_here x.0 x.1 xs x.0 refl)))
+    (λ (z : holds_any xs t ≡ true). let y = holds_what xs t s.1 z in (y.0, holder_older x xs s y.0 t y.1))
+    (or_cases (eqb t x.1) (holds_any xs t) e)
 
--- what exceeds the newest exceeds every value, and there are at most as many as it counts
-pub over_all : (f : ℕ → ℕ) (n w : ℕ) → Rising f n → reaches (head (newest_first f n)) w ≡ false → (i : ℕ) → i < n → f i < w
-over_all f zero w h e i l = absurd (omega arith)
-over_all f (suc n) w h e i l =
-    let top : f n < w = leb-false w (f n) e in
-    ⊎_elim (λ (q : i ≡ n). subst (λ (k : ℕ). f k < w) (sym q) top) (λ (ne : i ≡ n → ⊥). omega (arith, h i n (omega arith) (omega arith))) (cases_eq i n)
+holder_of : Option HeldLock → ℕ
+holder_of None = 0
+holder_of (Some l) = l.holder
 
-pub depth_le : (f : ℕ → ℕ) (n w : ℕ) → Tall f n → reaches (head (newest_first f n)) w ≡ false → n ≤ w
-depth_le f zero w h e = omega arith
-depth_le f (suc n) w h e = omega (arith, leb-false w (f n) e, (h n (omega arith)).0)
+-- holders do not fall and none is above t, so t holds something exactly where it is the newest holder
+pub newest_tells : (ls : List HeldLock) (l : HeldLock) (t : ℕ) → head ls ≡ Some l → Single (entries ls) → Nested (entries ls)
+    → ((r k : ℕ) → holder (entries ls) r ≡ Some k → k ≤ t) → eqb l.holder t ≡ holds_some (entries ls) (Some t)
+unfolding holder_of
+newest_tells [] l t e s n low = absurd (some_none l None e refl)
+newest_tells (x ∷ xs) l t e s n low =
+    let q : x.holder ≡ l.holder = ap holder_of e in
+    let under : x.holder ≤ t = low x.resource x.holder (holder_here x.resource x.holder (entries xs) x.resource refl) in
+    ⊎_elim
+    (λ (z : t ≡ x.holder). eq-eqb l.holder t (sym q ∙ sym z) ∙ sym (or_left (eqb t x.holder) (holds_any (entries xs) t) (eq-eqb t x.holder z)))
+    (λ (ne : t ≡ x.holder → ⊥).
+    let none : holds_any (entries xs) t ≡ false = ⊎_elim
+    (λ (h : holds_any (entries xs) t ≡ true). let y = holds_what (entries xs) t s.1 h in let z : t ≤ x.holder = n.0 y.0 t y.1 in absurd (ne (omega arith)))
+    (λ h. h) (cases_Bool (holds_any (entries xs) t)) in
+    ne_eqb l.holder t (λ y. ne (sym y ∙ sym q)) ∙ sym (or_from (eqb t x.holder) (holds_any (entries xs) t) (ne_eqb t x.holder ne) none))
+    (cases_eq t x.holder)
 
-pub rising_push : (f g : ℕ → ℕ) (n w : ℕ) → ((i : ℕ) → i < n → g i ≡ f i) → g n ≡ w → ((i : ℕ) → i < n → f i < w) → Rising f n → Rising g (n + 1)
-rising_push f g n w same here above h i j a b = ⊎_elim
-    (λ (q : j ≡ n). let e : g j ≡ w = ap g q ∙ here in omega (arith, same i (omega arith), above i (omega arith)))
-    (λ (ne : j ≡ n → ⊥). omega (arith, same i (omega arith), same j (omega arith), h i j a (omega arith)))
-    (cases_eq j n)
+-- one lock less
+pub fewer_held : (p : Option Plan) (chain : List ℕ) (ls : List HeldLock) → Single (entries ls) → (present p ≡ false → ls ≡ []) → Placed chain ls → keeps_levels p ls ≡ true
+    → (present p ≡ false → tail ls ≡ []) × Placed chain (tail ls) × (keeps_levels p (tail ls) ≡ true)
+fewer_held p chain [] s e h k = (λ z. refl, h, k)
+fewer_held p chain (l ∷ ls) s e h k = (λ z. ap tail (e z), (λ r i q. h r i (holder_older (l.resource, l.holder) (entries ls) s r i q)), (and_parts (same l.level (system_ceiling_under p (entries (l ∷ ls)))) (keeps_levels p ls) k).1)
 
--- the newest of rising values is the greatest
-pub top_is : (f : ℕ → ℕ) (n : ℕ) → Rising f n → (i : ℕ) → i < n → f i ≤ f (n - 1)
-top_is f n h i l = ⊎_elim (λ (q : i ≡ n - 1). omega (arith, ap f q)) (λ (ne : i ≡ n - 1 → ⊥). omega (arith, h i (n - 1) (omega arith) (omega arith))) (cases_eq i (n - 1))
+pub placed_tail : (chain : List ℕ) (ls : List HeldLock) → holds_some (entries ls) (head chain) ≡ false → Placed chain ls → Placed (tail chain) ls
+placed_tail [] ls e h r k i = h r k i
+placed_tail (x ∷ xs) ls e h r k i =
+    ⊎_elim (λ (q : k ≡ x). absurd (holds_none (entries ls) x e r k i q)) (λ (q : among xs k ≡ true). q) (among_cases x xs k (h r k i))

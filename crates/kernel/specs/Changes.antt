@@ -6,7 +6,8 @@ use Rattle.machine.specs.Moves.{set, only, take, for}
 use Rattle.machine.specs.Schedules.{head, system_ceiling}
 use Rattle.machine.specs.Machine.{marked}
 use Rattle.kernel.specs.declared.state.Core.{Core}
-use Rattle.kernel.specs.Parts.{chain_in, held_in, marks_in}
+use Rattle.kernel.specs.Parts.{marks_in}
+use Rattle.kernel.specs.Lists.{entries}
 
 -- Task w may start: a plan is installed, and w exceeds the running task and the system ceiling.
 abbrev pub may_start : Option Plan → List ℕ → List (ℕ × ℕ) → ℕ → Bool
@@ -28,34 +29,34 @@ unmarked_all m = marked (only (λ e t. false)) None m
 -- A core with nothing in it.
 pub record Blank (b : Core) : Type 0 where
   pub plan : b.plan ≡ None
-  pub chain : chain_in b.chain ≡ []
-  pub held : held_in b.held ≡ []
+  pub chain : b.chain ≡ []
+  pub held : b.held ≡ []
   pub marks : marks_in b ≡ (λ e t. false)
 
 -- The core a with the plan p, and no mark.
 pub record Fitted (a b : Core) (p : Plan) : Type 0 where
   pub plan : b.plan ≡ Some p
-  pub chain : chain_in b.chain ≡ chain_in a.chain
-  pub held : held_in b.held ≡ held_in a.held
+  pub chain : b.chain ≡ a.chain
+  pub held : b.held ≡ a.held
   pub marks : marks_in b ≡ unmarked_all (marks_in a)
 
 -- The core a with another chain.
 pub record Rechained (a b : Core) (next : List ℕ) : Type 0 where
   pub plan : b.plan ≡ a.plan
-  pub chain : chain_in b.chain ≡ next
-  pub held : held_in b.held ≡ held_in a.held
+  pub chain : b.chain ≡ next
+  pub held : b.held ≡ a.held
   pub marks : marks_in b ≡ marks_in a
 
 -- The core a with another held list.
 pub record Reheld (a b : Core) (next : List (ℕ × ℕ)) : Type 0 where
   pub plan : b.plan ≡ a.plan
-  pub chain : chain_in b.chain ≡ chain_in a.chain
-  pub held : held_in b.held ≡ next
+  pub chain : b.chain ≡ a.chain
+  pub held : entries b.held ≡ next
   pub marks : marks_in b ≡ marks_in a
 
 -- The core a with other marks.
 pub record Remarked (a b : Core) (next : ℕ → ℕ → Bool) : Type 0 where
   pub plan : b.plan ≡ a.plan
-  pub chain : chain_in b.chain ≡ chain_in a.chain
-  pub held : held_in b.held ≡ held_in a.held
+  pub chain : b.chain ≡ a.chain
+  pub held : b.held ≡ a.held
   pub marks : marks_in b ≡ next

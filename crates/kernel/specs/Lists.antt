@@ -1,28 +1,34 @@
--- The lists that the arrays of a kernel stand for, with the newest entry first. The structs' own rules cite this file.
-use Rattle.std.specs.Prelude.{ℕ, zero, suc, List, [], ◌∷◌, None, slice_index, slice_index_or}
+-- What the chain and the held list of a kernel keep, with the newest entry first. The structs cite this file.
+use Rattle.std.specs.Prelude.{◌≡◌, ℕ, ◌<◌, Bool, true, ◌&&◌, List, [], ◌∷◌, Some, Option}
+use Rattle.vectors.specs.Vectors.{in_vector}
+use Rattle.plan.specs.declared.record.Plan.{Plan}
+use Rattle.machine.specs.Schedules.{among, holder, system_ceiling_under}
+use Rattle.machine.specs.Refusals.{same}
+use Rattle.machine.specs.Shapes.{Falling, Single, Nested}
 use Rattle.kernel.specs.declared.held_lock.HeldLock.{HeldLock}
 
--- The first n values of a sequence, the last of them first.
-abbrev pub newest_first : {A : Type 0} → (ℕ → A) → ℕ → List A
-newest_first f zero = []
-newest_first f (suc n) = f n ∷ newest_first f n
+-- The chain falls, its tasks are below 64, and the vector holds the same tasks.
+pub record IsChain (xs : List ℕ) (started : ℕ) : Type 0 where
+  pub falling : Falling xs
+  pub small : (t : ℕ) → among xs t ≡ true → t < 64
+  pub noted : (t : ℕ) → in_vector started t ≡ among xs t
 
--- The first n numbers of an array.
-abbrev pub listed : List ℕ → ℕ → List ℕ
-listed xs n = newest_first (λ i. slice_index xs i) n
+-- The resources and holders of the locks.
+abbrev pub entries : List HeldLock → List (ℕ × ℕ)
+entries [] = []
+entries (l ∷ ls) = (l.resource, l.holder) ∷ entries ls
 
--- What stands where no lock does.
-abbrev pub no_lock : HeldLock
-no_lock = record { resource = 0; holder = 0; level = None }
+-- No resource is held twice, all are below 32, and no newer holder is below an older one.
+pub record IsHeldList (ls : List HeldLock) : Type 0 where
+  pub single : Single (entries ls)
+  pub nested : Nested (entries ls)
+  pub small : (r k : ℕ) → holder (entries ls) r ≡ Some k → r < 32
 
--- The resource and the holder of a lock.
-abbrev pub entry_of : HeldLock → ℕ × ℕ
-entry_of l = (l.resource, l.holder)
+-- The holders have started.
+abbrev pub Placed : List ℕ → List HeldLock → Type 0
+Placed chain ls = (r k : ℕ) → holder (entries ls) r ≡ Some k → among chain k ≡ true
 
--- The resources of the first n locks.
-abbrev pub resources_of : List HeldLock → ℕ → List ℕ
-resources_of ls n = newest_first (λ i. (slice_index_or ls i no_lock).resource) n
-
--- The resources and holders of the first n locks.
-abbrev pub held_of : List HeldLock → ℕ → List (ℕ × ℕ)
-held_of ls n = newest_first (λ i. entry_of (slice_index_or ls i no_lock)) n
+-- Each lock keeps the system ceiling that it led to.
+abbrev pub keeps_levels : Option Plan → List HeldLock → Bool
+keeps_levels p [] = true
+keeps_levels p (l ∷ ls) = same l.level (system_ceiling_under p (entries (l ∷ ls))) && keeps_levels p ls

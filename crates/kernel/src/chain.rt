@@ -1,38 +1,35 @@
 // The preemption chain: who runs, who has started, and one task more or less.
-ghost use Rattle.std.specs.Prelude.{◌≡◌, ℕ, ◌<◌, Bool, true, false, [], ◌∷◌};
+ghost use Rattle.std.specs.Prelude.{◌≡◌, ◌<◌, Bool, true, false, [], ◌∷◌};
 ghost use Rattle.plan.specs.Plans.{reaches};
 ghost use Rattle.machine.specs.Schedules.{head, tail, among};
-ghost use Rattle.kernel.specs.Parts.{chain_in};
+ghost use Rattle.machine.specs.Shapes.{Falling};
 
 use crate::state::Chain;
+use arrayvec::ArrayVec;
 use vectors::contains;
 
 impl Chain {
     // The chain of nobody.
     pub(crate) fn new() -> Chain
-        ensures { chain_in result ≡ [] }
+        ensures { result ≡ [] }
     {
         Chain {
-            tasks: [0; 64],
-            depth: 0,
+            tasks: ArrayVec::new(),
             started: 0,
         }
     }
 
-    // The running task: the newest.
+    // The running task: the newest, which is above all others.
     pub(crate) fn running(&self) -> Option<u8>
-        ensures { result ≡ head (chain_in self.now) }
+        ensures value { result ≡ head self.now }
+        ensures falling { Falling self.now }
     {
-        if self.depth == 0 {
-            None
-        } else {
-            Some(self.tasks[self.depth - 1])
-        }
+        self.tasks.last().copied()
     }
 
     // Whether task t has started and not ended.
     pub(crate) fn has(&self, t: u8) -> bool
-        ensures { result ≡ among (chain_in self.now) t }
+        ensures { result ≡ among self.now t }
     {
         contains(self.started, t)
     }
@@ -40,23 +37,18 @@ impl Chain {
     // Starts task w above the running task.
     pub(crate) fn push(&mut self, w: u8)
         requires small { w < 64 }
-        requires above { reaches (head (chain_in self.old)) w ≡ false }
-        ensures { chain_in self.new ≡ w ∷ chain_in self.old }
+        requires above { reaches (head self.old) w ≡ false }
+        ensures { self.new ≡ w ∷ self.old }
     {
-        let depth = self.depth;
-        self.tasks[depth] = w;
-        self.depth = depth + 1;
+        self.tasks.push(w);
         self.started |= 1 << w;
     }
 
     // Ends the running task, if there is one.
     pub(crate) fn pop(&mut self)
-        ensures { chain_in self.new ≡ tail (chain_in self.old) }
+        ensures { self.new ≡ tail self.old }
     {
-        let depth = self.depth;
-        if depth > 0 {
-            let t = self.tasks[depth - 1];
-            self.depth = depth - 1;
+        if let Some(t) = self.tasks.pop() {
             self.started &= !(1 << t);
         }
     }

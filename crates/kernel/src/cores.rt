@@ -2,27 +2,20 @@
 ghost use Rattle.std.specs.Prelude.{◌≡◌, ℕ, ◌<◌, ◌≤◌, Bool, true, false, not, ◌||◌, ◌∷◌, Some, None};
 ghost use Rattle.vectors.specs.Vectors.{in_vector, strays as strays_from};
 ghost use Rattle.plan.specs.Plans.{reaches};
-ghost use Rattle.machine.specs.Schedules.{head, tail, newest, holder as holder_in, higher as higher_of, system_ceiling_under};
-ghost use Rattle.machine.specs.Refusals.{present, absent, same, tasks_of, resources_of, may_lock, holds_some};
+ghost use Rattle.machine.specs.Schedules.{head, tail, newest, holder as holder_in, system_ceiling_under};
+ghost use Rattle.machine.specs.Refusals.{present, absent, same, tasks_of, resources_of, may_lock as may_lock_in, holds_some};
+ghost use Rattle.std.specs.Option.{ok_or};
+ghost use Rattle.machine.specs.declared.Refusal.TheVariants.{NoTaskRuns};
 ghost use Rattle.machine.specs.History.{ceiling_under};
-ghost use Rattle.kernel.specs.Parts.{chain_in, held_in};
-ghost use Rattle.kernel.specs.Changes.{may_start, Blank, Fitted, Rechained, Reheld};
+ghost use Rattle.machine.specs.Shapes.{Falling};
+ghost use Rattle.kernel.specs.Lists.{entries};
+ghost use Rattle.kernel.specs.Changes.{may_start as may_start_in, Blank, Fitted, Rechained, Reheld};
 
 use crate::held_lock::HeldLock;
 use crate::state::{Chain, Core, HeldList};
+use machine::Refusal;
 use plan::record::Plan;
 use vectors::{contains, strays};
-
-// The higher of two levels, of which either may be missing.
-fn higher(a: Option<u8>, b: Option<u8>) -> Option<u8>
-    ensures { result ≡ higher_of a b }
-{
-    match (a, b) {
-        (None, _) => b,
-        (_, None) => a,
-        (Some(x), Some(y)) => if x < y { b } else { a },
-    }
-}
 
 impl Core {
     // No plan, nobody started, nothing held, no mark.
@@ -41,10 +34,7 @@ impl Core {
     pub(crate) fn has_plan(&self) -> bool
         ensures { result ≡ present self.now.plan }
     {
-        match &self.plan {
-            Some(_) => true,
-            None => false,
-        }
+        self.plan.is_some()
     }
 
     // Takes its first plan, and clears every mark.
@@ -60,10 +50,7 @@ impl Core {
     pub(crate) fn declared(&self) -> u64
         ensures { in_vector result ≡ tasks_of self.now.plan }
     {
-        match &self.plan {
-            Some(p) => p.declared,
-            None => 0,
-        }
+        self.plan.as_ref().map_or(0, |p| p.declared)
     }
 
     // Whether the vector v holds a task that is not declared.
@@ -78,119 +65,100 @@ impl Core {
         ensures value { result ≡ resources_of self.now.plan }
         ensures bound { result ≤ 32 }
     {
-        match &self.plan {
-            Some(p) => p.resources as u16,
-            None => 0,
-        }
+        self.plan.as_ref().map_or(0, |p| u16::from(p.resources))
     }
 
     // Whether task t is a user of resource r.
     pub(crate) fn may_lock(&self, r: u16, t: u8) -> bool
-        ensures { result ≡ may_lock self.now.plan r (Some t) }
+        ensures { result ≡ may_lock_in self.now.plan r (Some t) }
     {
-        match &self.plan {
-            Some(p) => contains(p.users_of(r), t),
-            None => false,
-        }
+        self.plan
+            .as_ref()
+            .is_some_and(|p| contains(p.users_of(r), t))
     }
 
     // The ceiling of resource r.
     pub(crate) fn ceiling(&self, r: u16) -> Option<u8>
         ensures { result ≡ ceiling_under self.now.plan r }
     {
-        match &self.plan {
-            Some(p) => p.ceiling(r),
-            None => None,
-        }
+        self.plan.as_ref().and_then(|p| p.ceiling(r))
     }
 
     // The system ceiling, which the newest lock keeps.
     pub(crate) fn system_ceiling(&self) -> Option<u8>
-        ensures { result ≡ system_ceiling_under self.now.plan (held_in self.now.held) }
+        ensures { result ≡ system_ceiling_under self.now.plan (entries self.now.held) }
     {
-        match self.held.newest() {
-            Some(lock) => lock.level,
-            None => None,
-        }
+        self.held.newest().and_then(|lock| lock.level)
     }
 
     // Whether task w exceeds the running task and the system ceiling, under a plan.
     pub(crate) fn may_start(&self, w: u8) -> bool
-        ensures { result ≡ may_start self.now.plan (chain_in self.now.chain) (held_in self.now.held) w }
+        ensures { result ≡ may_start_in self.now.plan self.now.chain (entries self.now.held) w }
     {
-        if !self.has_plan() {
-            return false;
-        }
-        if let Some(t) = self.chain.running() {
-            if w <= t {
-                return false;
-            }
-        }
-        match self.system_ceiling() {
-            Some(c) => c < w,
-            None => true,
-        }
+        self.has_plan() && self.chain.running() < Some(w) && self.system_ceiling() < Some(w)
+    }
+
+    // The running task, without which most calls are turned down.
+    pub(crate) fn running(&self) -> Result<u8, Refusal>
+        ensures value { result ≡ ok_or (head self.now.chain) NoTaskRuns }
+        ensures falling { Falling self.now.chain }
+    {
+        self.chain.running().ok_or(Refusal::NoTaskRuns)
     }
 
     // Starts task w above the running task.
     pub(crate) fn start(&mut self, w: u8)
         requires small { w < 64 }
-        requires above { reaches (head (chain_in self.old.chain)) w ≡ false }
-        ensures { Rechained self.old self.new (w ∷ chain_in self.old.chain) }
+        requires above { reaches (head self.old.chain) w ≡ false }
+        ensures { Rechained self.old self.new (w ∷ self.old.chain) }
     {
         self.chain.push(w);
     }
 
     // Whether the running task holds a resource: holders do not fall, so the newest holder tells.
     pub(crate) fn running_holds(&self) -> bool
-        ensures { result ≡ holds_some (held_in self.now.held) (head (chain_in self.now.chain)) }
+        ensures { result ≡ holds_some (entries self.now.held) (head self.now.chain) }
     {
-        let Some(t) = self.chain.running() else {
-            return false;
-        };
-        match self.held.newest() {
-            Some(lock) => lock.holder == t,
-            None => false,
+        match (self.chain.running(), self.held.newest()) {
+            (Some(t), Some(lock)) => lock.holder == t,
+            _ => false,
         }
     }
 
     // Ends the running task, which holds nothing.
     pub(crate) fn end_running(&mut self)
-        requires { holds_some (held_in self.old.held) (head (chain_in self.old.chain)) ≡ false }
-        ensures { Rechained self.old self.new (tail (chain_in self.old.chain)) }
+        requires { holds_some (entries self.old.held) (head self.old.chain) ≡ false }
+        ensures { Rechained self.old self.new (tail self.old.chain) }
     {
         self.chain.pop();
     }
 
     // Whether task t holds resource r.
     pub(crate) fn held_by(&self, r: u16, t: u8) -> bool
-        ensures { not result ≡ (absent (holder_in (held_in self.now.held) r) || not (same (holder_in (held_in self.now.held) r) (Some t))) }
+        ensures { not result ≡ (absent (holder_in (entries self.now.held) r) || not (same (holder_in (entries self.now.held) r) (Some t))) }
     {
-        match self.held.holder(r) {
-            Some(k) => k == t,
-            None => false,
-        }
+        self.held.holder(r) == Some(t)
     }
 
     // Whether resource r was locked last.
     pub(crate) fn locked_last(&self, r: u16) -> bool
-        ensures { result ≡ same (newest (held_in self.now.held)) (Some r) }
+        ensures { result ≡ same (newest (entries self.now.held)) (Some r) }
     {
-        match self.held.newest() {
-            Some(lock) => lock.resource as u16 == r,
-            None => false,
-        }
+        self.held
+            .newest()
+            .is_some_and(|lock| u16::from(lock.resource) == r)
     }
 
     // Notes that the running task t has locked resource r.
     pub(crate) fn lock(&mut self, r: u16, t: u8)
         requires small { r < 32 }
-        requires runs { head (chain_in self.old.chain) ≡ Some t }
-        requires free { holder_in (held_in self.old.held) r ≡ None }
+        requires falling { Falling self.old.chain }
+        requires runs { head self.old.chain ≡ Some t }
+        requires free { holder_in (entries self.old.held) r ≡ None }
         requires planned { present self.old.plan ≡ true }
-        ensures { Reheld self.old self.new ((r, t) ∷ held_in self.old.held) }
+        ensures { Reheld self.old self.new ((r, t) ∷ entries self.old.held) }
     {
-        let level = higher(self.ceiling(r), self.system_ceiling());
+        let level = self.ceiling(r).max(self.system_ceiling());
         self.held.push(HeldLock {
             resource: r as u8,
             holder: t,
@@ -200,7 +168,7 @@ impl Core {
 
     // Undoes the newest lock.
     pub(crate) fn unlock(&mut self)
-        ensures { Reheld self.old self.new (tail (held_in self.old.held)) }
+        ensures { Reheld self.old self.new (tail (entries self.old.held)) }
     {
         self.held.pop();
     }

@@ -1,7 +1,7 @@
 // One entry of the held list.
 
 // A resource, the task that locked it, and the system ceiling while this is the newest lock.
-#[derive(Clone, Copy)]
+#[derive(Clone, Copy, Default)]
 pub struct HeldLock {
     pub(crate) resource: u8,
     pub(crate) holder: u8,

@@ -1,10 +1,9 @@
 // Install: the kernel gets its plan. The tests of each call stand in the order of the refusal table, here as in the other calls.
-ghost use Rattle.std.specs.Prelude.{◌≡◌, Bool};
 ghost use Rattle.machine.specs.declared.Call.TheVariants.{Install};
-ghost use Rattle.machine.specs.Machine.{step, answer as answer_to};
-ghost use Rattle.kernel.specs.Meaning.{meaning};
+ghost use Rattle.kernel.specs.Meaning.{Follows};
 
 use crate::kernel::Kernel;
+use crate::refuse::refuse_if;
 use machine::{Refusal, Reply};
 use plan::record::Plan;
 use sets::waiting::WaitingSet;
@@ -13,21 +12,12 @@ use vectors::highest;
 impl<R: WaitingSet> Kernel<R> {
     // Gives the kernel its plan, with all marks clear.
     pub fn install(&mut self, plan: &Plan) -> Result<Reply, Refusal>
-        ensures after { meaning R.room R.holds self.new ≡ step (Install plan.now) (meaning R.room R.holds self.old) }
-        ensures value { result ≡ answer_to (Install plan.now) (meaning R.room R.holds self.old) }
+        ensures { Follows R.room R.holds (Install plan.now) self.old self.new result }
     {
-        if self.core.has_plan() {
-            return Err(Refusal::AlreadyInstalled);
-        }
-        let Some(top) = highest(plan.declared) else {
-            return Err(Refusal::NoTaskDeclared);
-        };
-        if self.set.size() <= top {
-            return Err(Refusal::SetTooSmall);
-        }
-        if let Some(_) = self.set.highest() {
-            return Err(Refusal::SetNotEmpty);
-        }
+        refuse_if(self.core.has_plan(), Refusal::AlreadyInstalled)?;
+        let top = highest(plan.declared).ok_or(Refusal::NoTaskDeclared)?;
+        refuse_if(self.set.size() <= top, Refusal::SetTooSmall)?;
+        refuse_if(self.set.highest().is_some(), Refusal::SetNotEmpty)?;
         self.core.fit(plan);
         Ok(self.steady(None))
     }

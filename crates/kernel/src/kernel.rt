@@ -5,8 +5,7 @@ ghost use Rattle.machine.specs.Moves.{release as releasing};
 ghost use Rattle.machine.specs.Schedules.{due, started, moved};
 ghost use Rattle.machine.specs.Machine.{fresh};
 ghost use Rattle.machine.specs.Laws.{Set};
-ghost use Rattle.kernel.specs.Parts.{chain_in, marks_in};
-ghost use Rattle.kernel.specs.Meaning.{schedule_of, meaning, told, steady};
+ghost use Rattle.kernel.specs.Meaning.{meaning, told, steady as steady_reply};
 
 use crate::state::Core;
 use machine::{Reply, Word};
@@ -34,9 +33,9 @@ impl<R: WaitingSet> Kernel<R> {
 
     // Starts the highest waiting task where it exceeds the running task and the system ceiling.
     fn dispatch(&mut self) -> Option<u8>
-        ensures value { result ≡ due (schedule_of self.old.core (R.room self.old.set) (R.holds self.old.set)) }
-        ensures after { schedule_of self.new.core (R.room self.new.set) (R.holds self.new.set) ≡ started result (schedule_of self.old.core (R.room self.old.set) (R.holds self.old.set)) }
-        ensures marks { marks_in self.new.core ≡ marks_in self.old.core }
+        ensures value { result ≡ due (meaning R.room R.holds self.old).schedule }
+        ensures after { (meaning R.room R.holds self.new).schedule ≡ started result (meaning R.room R.holds self.old).schedule }
+        ensures marks { (meaning R.room R.holds self.new).marks ≡ (meaning R.room R.holds self.old).marks }
     {
         let Some(w) = self.set.highest() else {
             return None;
@@ -55,20 +54,16 @@ impl<R: WaitingSet> Kernel<R> {
         ensures after { (meaning R.room R.holds self.new).schedule ≡ started (due (meaning R.room R.holds self.old).schedule) (meaning R.room R.holds self.old).schedule }
         ensures marks { (meaning R.room R.holds self.new).marks ≡ (meaning R.room R.holds self.old).marks }
     {
-        let word = match self.dispatch() {
-            Some(_) => Word::Started,
-            None => otherwise,
-        };
+        let word = self.dispatch().map_or(otherwise, |_| Word::Started);
         Reply {
-            running: self.core.chain.running(),
             word,
-            mark: None,
+            ..self.steady(None)
         }
     }
 
     // The answer of a call that starts nothing.
     pub(crate) fn steady(&self, mark: Option<bool>) -> Reply
-        ensures { result ≡ steady (chain_in self.now.core.chain) mark }
+        ensures { result ≡ steady_reply self.now.core.chain mark }
     {
         Reply {
             running: self.core.chain.running(),
@@ -77,7 +72,8 @@ impl<R: WaitingSet> Kernel<R> {
         }
     }
 
-    // Puts each task of v that has not started into the waiting set.
+    // Puts each task of v that has not started into the waiting set. An iterator over a vector's tasks would be longer
+    // than the one loop that it served.
     pub(crate) fn admit(&mut self, v: u64)
         ensures after { (meaning R.room R.holds self.new).schedule ≡ moved (releasing (in_vector v)) (meaning R.room R.holds self.old).schedule }
         ensures marks { (meaning R.room R.holds self.new).marks ≡ (meaning R.room R.holds self.old).marks }

@@ -11,6 +11,7 @@ mod install;
 pub mod kernel;
 mod marks;
 mod questions;
+mod refuse;
 mod requests;
 mod resources;
 mod signal_release;

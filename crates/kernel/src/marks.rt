@@ -2,7 +2,7 @@
 ghost use Rattle.std.specs.Prelude.{◌≡◌, ℕ, ◌<◌, ◌≤◌, Bool, true, false, Some, None};
 ghost use Rattle.vectors.specs.Vectors.{in_vector};
 ghost use Rattle.machine.specs.Moves.{meant_under};
-ghost use Rattle.machine.specs.Refusals.{events_of, registered_of, may_test, stray};
+ghost use Rattle.machine.specs.Refusals.{events_of, registered_of, may_test as may_test_in, stray};
 ghost use Rattle.kernel.specs.Parts.{marks_in};
 ghost use Rattle.kernel.specs.Changes.{marked_too, unmarked, Remarked};
 
@@ -15,64 +15,50 @@ impl Core {
         ensures value { result ≡ events_of self.now.plan }
         ensures bound { result ≤ 32 }
     {
-        match &self.plan {
-            Some(p) => p.events as u16,
-            None => 0,
-        }
+        self.plan.as_ref().map_or(0, |p| u16::from(p.events))
     }
 
     // The tasks registered for event e.
     pub(crate) fn registered(&self, e: u16) -> u64
         ensures { in_vector result ≡ registered_of self.now.plan e }
     {
-        match &self.plan {
-            Some(p) => p.registered_for(e),
-            None => 0,
-        }
+        self.plan.as_ref().map_or(0, |p| p.registered_for(e))
     }
 
     // Whether task t is registered for event e.
     pub(crate) fn may_test(&self, e: u16, t: u8) -> bool
-        ensures { result ≡ may_test self.now.plan e (Some t) }
+        ensures { result ≡ may_test_in self.now.plan e (Some t) }
     {
-        match &self.plan {
-            Some(p) => contains(p.registered_for(e), t),
-            None => false,
-        }
+        self.plan
+            .as_ref()
+            .is_some_and(|p| contains(p.registered_for(e), t))
     }
 
     // Whether a vector is given that holds a task not registered for event e.
     pub(crate) fn any_unregistered(&self, e: u16, v: Option<u64>) -> bool
         ensures { result ≡ stray v (registered_of self.now.plan e) }
     {
-        match v {
-            Some(w) => strays(w, self.registered(e)),
-            None => false,
-        }
+        let registered = self.registered(e);
+        v.is_some_and(|w| strays(w, registered))
     }
 
     // The tasks that a signal of event e means.
     pub(crate) fn meant(&self, e: u16, v: Option<u64>) -> u64
         ensures { in_vector result ≡ meant_under self.now.plan e v }
     {
-        match &self.plan {
-            Some(p) => match v {
-                Some(w) => w,
-                None => p.registered_for(e),
-            },
-            None => 0,
-        }
+        self.plan
+            .as_ref()
+            .map_or(0, |p| v.unwrap_or(p.registered_for(e)))
     }
 
     // Whether task t is marked for event e.
+    #[tactic(auto, using(crate::proofs::Marking::past_end))]
     pub(crate) fn marked(&self, e: u16, t: u8) -> bool
         ensures { result ≡ marks_in self.now e t }
     {
-        if e < 32 {
-            contains(self.marks[e as usize], t)
-        } else {
-            false
-        }
+        self.marks
+            .get(usize::from(e))
+            .is_some_and(|v| contains(*v, t))
     }
 
     // Sets the marks of the tasks in v for event e.
@@ -80,7 +66,7 @@ impl Core {
         requires { e < 32 }
         ensures { Remarked self.old self.new (marked_too e (in_vector v) (marks_in self.old)) }
     {
-        self.marks[e as usize] |= v;
+        self.marks[usize::from(e)] |= v;
     }
 
     // Clears the mark of task t for event e.
@@ -89,6 +75,6 @@ impl Core {
         requires task { t < 64 }
         ensures { Remarked self.old self.new (unmarked e t (marks_in self.old)) }
     {
-        self.marks[e as usize] &= !(1 << t);
+        self.marks[usize::from(e)] &= !(1 << t);
     }
 }

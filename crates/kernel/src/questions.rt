@@ -33,18 +33,15 @@ impl<R: WaitingSet> Kernel<R> {
     }
 
     // The waiting tasks as a vector, read from the set. Row by row, since the compiler then joins the questions to
-    // a set that is a vector itself.
+    // a set that is a vector itself: one loop over all 64 took half as many instructions a record again.
     pub fn waiting(&self) -> u64
         ensures { result ≡ vector_of 64 (meaning R.room R.holds self.now).schedule.waiting }
     {
-        let v = self.with_row(0, 0);
-        let v = self.with_row(v, 8);
-        let v = self.with_row(v, 16);
-        let v = self.with_row(v, 24);
-        let v = self.with_row(v, 32);
-        let v = self.with_row(v, 40);
-        let v = self.with_row(v, 48);
-        self.with_row(v, 56)
+        let mut members = 0;
+        for row in 0..8 {
+            members = self.with_row(members, 8 * row);
+        }
+        members
     }
 
     // The holder of resource r.

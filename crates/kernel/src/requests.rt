@@ -2,7 +2,7 @@
 ghost use Rattle.std.specs.Prelude.{◌≡◌, Bool};
 ghost use Rattle.machine.specs.Machine.{step, answer as answer_to};
 ghost use Rattle.machine.specs.Laws.{StaysLawful};
-ghost use Rattle.kernel.specs.Meaning.{meaning};
+ghost use Rattle.kernel.specs.Meaning.{meaning, Follows};
 
 use crate::kernel::Kernel;
 use machine::{Call, Refusal, Reply};
@@ -11,8 +11,7 @@ use sets::waiting::WaitingSet;
 impl<R: WaitingSet> Kernel<R> {
     // Makes the call by its kind.
     fn act(&mut self, c: &Call) -> Result<Reply, Refusal>
-        ensures after { meaning R.room R.holds self.new ≡ step c.now (meaning R.room R.holds self.old) }
-        ensures value { result ≡ answer_to c.now (meaning R.room R.holds self.old) }
+        ensures { Follows R.room R.holds c.now self.old self.new result }
     {
         match c {
             Call::Install(p) => self.install(p),

@@ -1,52 +1,33 @@
 // Lock and unlock.
-ghost use Rattle.std.specs.Prelude.{◌≡◌, Bool};
 ghost use Rattle.machine.specs.declared.Call.TheVariants.{Lock, Unlock};
-ghost use Rattle.machine.specs.Machine.{step, answer as answer_to};
-ghost use Rattle.kernel.specs.Meaning.{meaning};
+ghost use Rattle.kernel.specs.Meaning.{Follows};
 
 use crate::kernel::Kernel;
+use crate::refuse::refuse_if;
 use machine::{Refusal, Reply, Word};
 use sets::waiting::WaitingSet;
 
 impl<R: WaitingSet> Kernel<R> {
     // Locks resource r for the running task.
     pub fn lock(&mut self, r: u16) -> Result<Reply, Refusal>
-        ensures after { meaning R.room R.holds self.new ≡ step (Lock r) (meaning R.room R.holds self.old) }
-        ensures value { result ≡ answer_to (Lock r) (meaning R.room R.holds self.old) }
+        ensures { Follows R.room R.holds (Lock r) self.old self.new result }
     {
-        let Some(t) = self.core.chain.running() else {
-            return Err(Refusal::NoTaskRuns);
-        };
-        if self.core.resources() <= r {
-            return Err(Refusal::NotDeclared);
-        }
-        if !self.core.may_lock(r, t) {
-            return Err(Refusal::NotEntitled);
-        }
-        if self.core.held.has(r) {
-            return Err(Refusal::AlreadyHeld);
-        }
+        let t = self.core.running()?;
+        refuse_if(self.core.resources() <= r, Refusal::NotDeclared)?;
+        refuse_if(!self.core.may_lock(r, t), Refusal::NotEntitled)?;
+        refuse_if(self.core.held.has(r), Refusal::AlreadyHeld)?;
         self.core.lock(r, t);
         Ok(self.steady(None))
     }
 
     // Undoes the running task's lock of resource r, which has to be the newest.
     pub fn unlock(&mut self, r: u16) -> Result<Reply, Refusal>
-        ensures after { meaning R.room R.holds self.new ≡ step (Unlock r) (meaning R.room R.holds self.old) }
-        ensures value { result ≡ answer_to (Unlock r) (meaning R.room R.holds self.old) }
+        ensures { Follows R.room R.holds (Unlock r) self.old self.new result }
     {
-        let Some(t) = self.core.chain.running() else {
-            return Err(Refusal::NoTaskRuns);
-        };
-        if self.core.resources() <= r {
-            return Err(Refusal::NotDeclared);
-        }
-        if !self.core.held_by(r, t) {
-            return Err(Refusal::NotHolder);
-        }
-        if !self.core.locked_last(r) {
-            return Err(Refusal::LaterLockHeld);
-        }
+        let t = self.core.running()?;
+        refuse_if(self.core.resources() <= r, Refusal::NotDeclared)?;
+        refuse_if(!self.core.held_by(r, t), Refusal::NotHolder)?;
+        refuse_if(!self.core.locked_last(r), Refusal::LaterLockHeld)?;
         self.core.unlock();
         Ok(self.settle(Word::Same))
     }

@@ -1,6 +1,6 @@
 -- What a history tells is what the machine holds, after every call.
 use Rattle.std.proofs.Common.{◌≡◌, ℕ, ◌<◌, Bool, true, false, cond, not, ◌&&◌, ◌||◌, eqb, ltb, List, [], ◌∷◌, Some, None, Option, sym, refl, ap, ◌∙◌, subst, arith}
-use Rattle.std.proofs.lemmas.Bool.{both_ways, lt-ltb, not_from_true, not_from_false, eqb-true, and_parts, and_from, and_right, or_from, or_left, or_right}
+use Rattle.std.proofs.lemmas.Bool.{both_ways, lt-ltb, not_from_true, not_from_false, eqb-true, and_parts, and_from, and_right, or_from, or_left, or_right, false_from_ne_true}
 use Rattle.plan.specs.declared.record.Plan.{Plan}
 use Rattle.machine.specs.declared.Call.{Call}
 use Rattle.machine.specs.declared.Refusal.{Refusal}
@@ -13,8 +13,9 @@ use Rattle.machine.specs.Refusals.{refusal}
 use Rattle.machine.specs.History.{Entry, History, told, made, runs, plan_of, holder_of, unfinished, unfinished_after, ended, ends, begins, given, changed_holder}
 use Rattle.vectors.proofs.Vectors.{highest_empties}
 use Rattle.vectors.proofs.Vectors.{Greatest, highest_some}
-use Rattle.laws.proofs.Sets.{some_none, false_from}
-use Rattle.laws.proofs.Lists.{Falling, unlocked}
+use Rattle.laws.proofs.Sets.{some_none}
+use Rattle.laws.proofs.Lists.{unlocked}
+use Rattle.machine.specs.Shapes.{Falling}
 use Rattle.laws.proofs.Allowances.{allows}
 use Rattle.laws.proofs.Invariant.{Shape, Suits, Settled, Empty, Stands, Good, Allowed, someone_runs, start_busy, step_good}
 
@@ -90,13 +91,13 @@ leave_busy (x ∷ xs) w f d t = go (eqb t x) refl
     go : (b : Bool) → eqb t x ≡ b → (not b && (w t || (b || among xs t))) ≡ (w t || among xs t)
     go true q =
         sym
-        (or_from (w t) (among xs t) (false_from (w t) (λ z. both_ways (among (x ∷ xs) t) (d t z) (or_left (eqb t x) (among xs t) q)))
-        (false_from (among xs t) (λ z. let a : t < x = f.0 t z in let b = eqb-true t x q in omega arith)))
+        (or_from (w t) (among xs t) (false_from_ne_true (w t) (λ z. both_ways (among (x ∷ xs) t) (d t z) (or_left (eqb t x) (among xs t) q)))
+        (false_from_ne_true (among xs t) (λ z. let a : t < x = f.0 t z in let b = eqb-true t x q in omega arith)))
     go false q = refl
 
 none_busy : (y : Schedule) → highest y.size y.waiting ≡ None → Empty y → (t : ℕ) → busy y t ≡ false
 none_busy y n g t =
-    or_from (y.waiting t) (among y.chain t) (false_from (y.waiting t) (λ z. both_ways (y.waiting t) (highest_empties y.size y.waiting n t (g.inside t z)) z))
+    or_from (y.waiting t) (among y.chain t) (false_from_ne_true (y.waiting t) (λ z. both_ways (y.waiting t) (highest_empties y.size y.waiting n t (g.inside t z)) z))
     (ap (λ (c : List ℕ). among c t) g.no_chain)
 
 busy_moved : (o : Option Plan) (a : Move) (y : Schedule) → Allowed a o y → Shape y → Stands o y → (t : ℕ)
@@ -104,7 +105,7 @@ busy_moved : (o : Option Plan) (a : Move) (y : Schedule) → Allowed a o y → S
 busy_moved o stay y a h g t = refl
 busy_moved (Some p) (fit q) y a h g t = refl
 busy_moved None (fit q) y a h g t = sym (none_busy y a.nobody g t)
-busy_moved None (release v) y a h g t = or_from (v t) false (false_from (v t) (λ z. both_ways false refl (a t z))) refl
+busy_moved None (release v) y a h g t = or_from (v t) false (false_from_ne_true (v t) (λ z. both_ways false refl (a t z))) refl
 busy_moved (Some p) (release v) y a h g t = or_three (y.waiting t) (v t) (among y.chain t) (ltb t y.size) (λ e. lt-ltb t y.size (g.fits t (a t e)))
 busy_moved None (lock r) y a h g t = refl
 busy_moved (Some p) (lock r) y a h g t = refl

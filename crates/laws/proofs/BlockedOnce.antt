@@ -15,7 +15,8 @@ use Rattle.machine.specs.Refusals.{refusal}
 use Rattle.machine.specs.History.{Entry, History, runs, holder_of, unfinished, begins, ends, HeldSince, ceiling_under, HoldsUp}
 use Rattle.machine.specs.Laws.{NoExit, Only, BlockedOnce}
 use Rattle.laws.proofs.Sets.{some_none}
-use Rattle.laws.proofs.Lists.{reaches_down, top, head_among, Single, holder_cases, holder_here, holder_older, holder_tail, under_ceiling, under_cases}
+use Rattle.laws.proofs.Lists.{reaches_down, top, head_among, holder_cases, holder_here, holder_older, holder_tail, under_ceiling, under_cases}
+use Rattle.machine.specs.Shapes.{Single}
 use Rattle.laws.proofs.Invariant.{Allowed, blocked}
 use Rattle.laws.proofs.Agreement.{allowed, held_kept, regrip, wait_goes_on, wait_not_new, wait_new, wait_holder, wait_plan, Inv, unfinished_is, inv_step, Ready, ready}
 use Rattle.laws.proofs.Exclusion.{From, from_inv, UnderPlan, under_plan}

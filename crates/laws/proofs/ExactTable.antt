@@ -2,7 +2,7 @@
 use Rattle.std.proofs.Common.{◌≡◌, ℕ, ◌^◌, ◌<◌, Bool, true, false, cond, not, ◌&&◌, ◌||◌, eqb, ltb, leb, [], ◌∷◌, Some, None, Option, sym, refl, ap, ◌∙◌, subst, inr, ⊎_elim, arith}
 use mathlib.Core.Logic.{∥∥₁_elim}
 use mathlib.Core.Bool.{Bool-set}
-use Rattle.std.proofs.lemmas.Bool.{eq-eqb, both_ways, not-true, ltb-true, lt-ltb, lt-leb, ne_eqb, eqb-false, or_cases, or_left, or_right, or_from, and_parts, and_from, not_from_true, not_from_false, cases_Bool}
+use Rattle.std.proofs.lemmas.Bool.{eq-eqb, both_ways, not-true, ltb-true, lt-ltb, lt-leb, ne_eqb, eqb-false, or_cases, or_left, or_right, or_from, and_parts, and_from, not_from_true, not_from_false, cases_Bool, false_from_ne_true}
 use Rattle.plan.specs.declared.record.Plan.{Plan}
 use Rattle.machine.specs.declared.Call.{Call}
 use Rattle.machine.specs.declared.Call.TheVariants.{Install, Release, Lock}
@@ -19,7 +19,7 @@ use Rattle.machine.specs.History.{Entry, History, accepted, plan_of, holder_of, 
 use Rattle.machine.specs.Laws.{history, Set, CanHoldUp, Shown, Exact}
 use Rattle.vectors.proofs.Vectors.{highest_empties, highest_none, in_small}
 use Rattle.vectors.proofs.Vectors.{highest_some}
-use Rattle.laws.proofs.Sets.{greatest_is, false_from, all_pass, own_bit, one_bit}
+use Rattle.laws.proofs.Sets.{greatest_is, all_pass, own_bit, one_bit}
 use Rattle.laws.proofs.Lists.{under_here, user_declared, user_in_range}
 use Rattle.laws.proofs.Invariant.{Allowed, block}
 use Rattle.laws.proofs.Allowances.{passes, none_refused, allows}
@@ -217,7 +217,7 @@ module _ (p : Plan) (l t r : ℕ) (c : ℕ) (w : ℕ → Bool) (x : Case p l t r
   fresh_t : unfinished (h₃ p l t r c w) t ≡ false
   fresh_t =
       unfinished_is (m₃ p l t r c w) (h₃ p l t r c w) inv₃ t ∙ ap (λ (z : Schedule). busy_under z.plan z t) third_step.now
-      ∙ or_from ((y₃ p l t r c w).waiting t) (among (y₃ p l t r c w).chain t) (false_from ((y₃ p l t r c w).waiting t) (no_more t)) not_started
+      ∙ or_from ((y₃ p l t r c w).waiting t) (among (y₃ p l t r c w).chain t) (false_from_ne_true ((y₃ p l t r c w).waiting t) (no_more t)) not_started
 
   waits₄ : unfinished (h₄ p l t r c w) t ≡ true
   waits₄ =

@@ -10,7 +10,8 @@ use Rattle.laws.proofs.Busy.{busy}
 use Rattle.machine.specs.Refusals.{refusal}
 use Rattle.machine.specs.History.{History, runs, plan_of, holder_of, unfinished, ceiling_under, may_lock_under}
 use Rattle.machine.specs.Laws.{record_run, history, Set, Exclusive}
-use Rattle.laws.proofs.Lists.{Falling, top, head_among, under_ceiling, under_cases, user_below}
+use Rattle.laws.proofs.Lists.{top, head_among, under_ceiling, under_cases, user_below}
+use Rattle.machine.specs.Shapes.{Falling}
 use Rattle.laws.proofs.Invariant.{blocked}
 use Rattle.laws.proofs.Agreement.{Inv, unfinished_is, inv_first, inv_step, Ready, ready, busy_plan}
 

@@ -1,6 +1,6 @@
 -- The invariant: what holds of every schedule that allowed moves lead to. Each move keeps it, and one lemma on dispatch serves them all.
 use Rattle.std.proofs.Common.{◌≡◌, ℕ, ◌<◌, ◌≤◌, Bool, true, false, cond, not, ◌&&◌, ◌||◌, eqb, ltb, ◌⊎◌, List, [], ◌∷◌, Some, None, Option, sym, refl, ap, ◌∙◌, subst, inl, inr, ⊎_elim, arith}
-use Rattle.std.proofs.lemmas.Bool.{both_ways, not-true, not-false, not_from_true, leb-false, le-leb, eqb-true, and_parts, and_cases, and_left, and_right, or_from, or_cases, or_left, or_right}
+use Rattle.std.proofs.lemmas.Bool.{both_ways, not-true, not-false, not_from_true, le-leb, eqb-true, and_parts, and_cases, and_left, and_right, or_from, or_cases, or_left, or_right, false_from_ne_true}
 use Rattle.plan.specs.declared.record.Plan.{Plan}
 use Rattle.vectors.specs.Vectors.{highest}
 use Rattle.plan.specs.Plans.{declares, uses, ceiling, reaches}
@@ -11,8 +11,9 @@ use Rattle.machine.specs.Refusals.{tasks_of, may_lock}
 use Rattle.machine.specs.History.{given}
 use Rattle.vectors.proofs.Vectors.{highest_empties}
 use Rattle.vectors.proofs.Vectors.{Greatest, highest_some}
-use Rattle.laws.proofs.Sets.{some_none, false_from}
-use Rattle.laws.proofs.Lists.{among_cases, among_there, Falling, falling_tail, top, head_among, tail_among, among_tail, holder_cases, Single, single_tail, Nested, nested_tail, holder_tail, holds_none, reaches_down, under_ceiling, under_there, not_under, under_down}
+use Rattle.laws.proofs.Sets.{some_none}
+use Rattle.laws.proofs.Lists.{among_cases, among_there, falling_tail, over_chain, top, head_among, tail_among, among_tail, holder_cases, single_tail, nested_tail, holder_tail, holds_none, reaches_down, under_ceiling, under_there, not_under, under_down}
+use Rattle.machine.specs.Shapes.{Falling, Single, Nested}
 
 -- whatever the plan
 pub record Shape (y : Schedule) : Type 0 where
@@ -102,13 +103,6 @@ blocked_down p y s t h e =
     block p y s
     (⊎_elim (λ (z : reaches (running y) t ≡ true). inl (reaches_down (running y) s t h z))
     (λ (z : under_ceiling p y.held t ≡ true). inr (under_down p y.held s t h z)) (blocked p y t e))
-
-over_chain : (xs : List ℕ) → Falling xs → (w : ℕ) → reaches (head xs) w ≡ false → (t : ℕ) → among xs t ≡ true → t < w
-over_chain [] f w e t h = absurd (both_ways false refl h)
-over_chain (x ∷ xs) f w e t h =
-    let a : x < w = leb-false w x e in
-    let b : t ≤ x = top (x ∷ xs) f x t refl h in
-    omega arith
 
 pub waiting_busy : (y : Schedule) (t : ℕ) → y.waiting t ≡ true → busy y t ≡ true
 waiting_busy y t e = or_left (y.waiting t) (among y.chain t) e
@@ -300,7 +294,7 @@ leave_busy y t z = ⊎_elim (λ (i : y.waiting t ≡ true). waiting_busy y t i) 
 leave_shape : (k : ℕ) (y : Schedule) → running y ≡ Some k → holds_any y.held k ≡ false → Shape y → Shape (moved leave y)
 leave_shape k y e n s =
     record {
-      apart = λ t z. false_from (among (tail y.chain) t) (λ i. both_ways (among y.chain t) (s.apart t z) (tail_among y.chain t i));
+      apart = λ t z. false_from_ne_true (among (tail y.chain) t) (λ i. both_ways (among y.chain t) (s.apart t z) (tail_among y.chain t i));
       falling = falling_tail y.chain s.falling;
       placed = λ q j z. among_tail y.chain k j e (holds_none y.held k n q j z) (s.placed q j z);
       single = s.single;

@@ -1,13 +1,15 @@
 -- Chains, held lists and ceilings, by themselves.
 use Rattle.std.proofs.Common.{◌≡◌, ℕ, ◌<◌, ◌≤◌, Bool, true, false, cond, ◌||◌, eqb, leb, ◌⊎◌, List, [], ◌∷◌, Some, None, Option, sym, refl, ap, ◌∙◌, subst, inl, inr, ⊎_elim, arith}
-use Rattle.std.proofs.lemmas.Bool.{both_ways, eqb-true, eqb-false, leb-true, le-leb, eq-eqb, ne_eqb, or_parts, or_cases, or_left, or_right, cases_Bool, cases_lt, lt-leb, lt-ltb, le-ltb, or_from}
+use Rattle.std.proofs.lemmas.Option.{same_Some}
+use Rattle.std.proofs.lemmas.Bool.{both_ways, eqb-true, eqb-false, leb-true, leb-false, le-leb, eq-eqb, ne_eqb, or_parts, or_cases, or_left, or_right, cases_Bool, cases_lt, lt-leb, lt-ltb, le-ltb, or_from}
 use Rattle.plan.specs.declared.record.Plan.{Plan}
 use Rattle.vectors.specs.Vectors.{in_vector}
 use Rattle.plan.specs.Plans.{declares, uses, ceiling, reaches}
 use Rattle.machine.specs.Schedules.{head, tail, among, holder, holds_any, newest, higher, system_ceiling}
+use Rattle.machine.specs.Shapes.{Falling, Single, Nested}
 use Rattle.vectors.proofs.Bits.{or_false}
 use Rattle.vectors.proofs.Vectors.{highest_empties, in_small, in_none}
-use Rattle.vectors.proofs.Vectors.{some_inj, highest_some}
+use Rattle.vectors.proofs.Vectors.{highest_some}
 use Rattle.laws.proofs.Sets.{some_none}
 
 -- chains
@@ -21,11 +23,6 @@ among_here x xs = or_left (eqb x x) (among xs x) (eq-eqb x x refl)
 pub among_there : (x : ℕ) (xs : List ℕ) (t : ℕ) → among xs t ≡ true → among (x ∷ xs) t ≡ true
 among_there x xs t e = or_right (eqb t x) (among xs t) e
 
--- each newer task is greater
-abbrev pub Falling : List ℕ → Type 0
-Falling [] = Unit {0}
-Falling (x ∷ xs) = ((t : ℕ) → among xs t ≡ true → t < x) × Falling xs
-
 pub falling_tail : (xs : List ℕ) → Falling xs → Falling (tail xs)
 falling_tail [] f = tt
 falling_tail (x ∷ xs) f = f.1
@@ -34,12 +31,20 @@ falling_tail (x ∷ xs) f = f.1
 pub top : (xs : List ℕ) → Falling xs → (k t : ℕ) → head xs ≡ Some k → among xs t ≡ true → t ≤ k
 top [] f k t e h = absurd (some_none k None e refl)
 top (x ∷ xs) f k t e h =
-    let z : x ≡ k = some_inj x k e in
+    let z : x ≡ k = same_Some x k e in
     ⊎_elim (λ (y : t ≡ x). omega arith) (λ (y : among xs t ≡ true). let w : t < x = f.0 t y in omega arith) (among_cases x xs t h)
+
+-- what is above the running task is above all that have started
+pub over_chain : (xs : List ℕ) → Falling xs → (w : ℕ) → reaches (head xs) w ≡ false → (t : ℕ) → among xs t ≡ true → t < w
+over_chain [] f w e t h = absurd (both_ways false refl h)
+over_chain (x ∷ xs) f w e t h =
+    let a : x < w = leb-false w x e in
+    let b : t ≤ x = top (x ∷ xs) f x t refl h in
+    omega arith
 
 pub head_among : (xs : List ℕ) (k : ℕ) → head xs ≡ Some k → among xs k ≡ true
 head_among [] k e = absurd (some_none k None e refl)
-head_among (x ∷ xs) k e = subst (λ (i : ℕ). among (x ∷ xs) i ≡ true) (some_inj x k e) (among_here x xs)
+head_among (x ∷ xs) k e = subst (λ (i : ℕ). among (x ∷ xs) i ≡ true) (same_Some x k e) (among_here x xs)
 
 pub tail_among : (xs : List ℕ) (t : ℕ) → among (tail xs) t ≡ true → among xs t ≡ true
 tail_among [] t e = e
@@ -48,7 +53,7 @@ tail_among (x ∷ xs) t e = among_there x xs t e
 pub among_tail : (xs : List ℕ) (k t : ℕ) → head xs ≡ Some k → (t ≡ k → ⊥) → among xs t ≡ true → among (tail xs) t ≡ true
 among_tail [] k t e n h = h
 among_tail (x ∷ xs) k t e n h =
-    ⊎_elim (λ (y : t ≡ x). absurd (n (y ∙ some_inj x k e))) (λ (y : among xs t ≡ true). y) (among_cases x xs t h)
+    ⊎_elim (λ (y : t ≡ x). absurd (n (y ∙ same_Some x k e))) (λ (y : among xs t ≡ true). y) (among_cases x xs t h)
 
 pub nobody_heads : (xs : List ℕ) → head xs ≡ None → (t : ℕ) → among xs t ≡ false
 nobody_heads [] e t = refl
@@ -67,13 +72,8 @@ pub holder_cases : (x : ℕ × ℕ) (xs : List (ℕ × ℕ)) (s k : ℕ) → hol
 holder_cases x xs s k e = go (eqb s x.0) refl e
   where
     go : (b : Bool) → eqb s x.0 ≡ b → cond b (Some x.1) (holder xs s) ≡ Some k → ((s ≡ x.0) × (x.1 ≡ k)) ⊎ ((s ≡ x.0 → ⊥) × (holder xs s ≡ Some k))
-    go true q f = inl (eqb-true s x.0 q, some_inj x.1 k f)
+    go true q f = inl (eqb-true s x.0 q, same_Some x.1 k f)
     go false q f = inr (eqb-false s x.0 q, f)
-
--- no resource is held twice
-abbrev pub Single : List (ℕ × ℕ) → Type 0
-Single [] = Unit {0}
-Single (x ∷ xs) = (holder xs x.0 ≡ None) × Single xs
 
 pub single_tail : (xs : List (ℕ × ℕ)) → Single xs → Single (tail xs)
 single_tail [] f = tt
@@ -86,11 +86,6 @@ holder_older x xs f s k e =
 pub holder_tail : (xs : List (ℕ × ℕ)) → Single xs → (s k : ℕ) → holder (tail xs) s ≡ Some k → holder xs s ≡ Some k
 holder_tail [] f s k e = e
 holder_tail (x ∷ xs) f s k e = holder_older x xs f s k e
-
--- no newer holder is below an older one
-abbrev pub Nested : List (ℕ × ℕ) → Type 0
-Nested [] = Unit {0}
-Nested (x ∷ xs) = ((r k : ℕ) → holder xs r ≡ Some k → k ≤ x.1) × Nested xs
 
 pub nested_tail : (xs : List (ℕ × ℕ)) → Nested xs → Nested (tail xs)
 nested_tail [] f = tt
@@ -110,7 +105,7 @@ unlocked [] r f e s = absurd (some_none r None e refl)
 unlocked (x ∷ xs) r f e s = go (eqb s r) refl
   where
     z : x.0 ≡ r
-    z = some_inj x.0 r e
+    z = same_Some x.0 r e
 
     go : (b : Bool) → eqb s r ≡ b → cond b None (holder (x ∷ xs) s) ≡ holder xs s
     go true q = sym (subst (λ (i : ℕ). holder xs i ≡ None) (z ∙ sym (eqb-true s r q)) f.0)

@@ -1,21 +1,18 @@
 -- Options, the greatest member of a set, strays, and the vector of one task.
-use Rattle.std.proofs.Common.{◌≡◌, ℕ, zero, suc, ◌^◌, ◌<◌, ◌≤◌, Bool, true, false, not, ◌&&◌, eqb, ltb, Some, None, Option, refl, ⊎_elim, arith}
-use Rattle.std.proofs.lemmas.Bool.{both_ways, not-true, eqb-true, lt-ltb, eq-eqb, and_parts, or_from, and_from, cases_eq}
+use Rattle.std.proofs.Common.{◌≡◌, ℕ, zero, suc, ◌^◌, ◌<◌, ◌≤◌, Bool, true, false, not, ◌&&◌, eqb, ltb, Some, None, Option, sym, refl, ◌∙◌, ⊎_elim, arith}
+use Rattle.std.proofs.lemmas.Option.{none-some}
+use Rattle.std.proofs.lemmas.Bool.{both_ways, not-true, eqb-true, lt-ltb, eq-eqb, and_parts, or_from, and_from, cases_eq, false_from_ne_true}
 use Rattle.vectors.specs.Vectors.{in_vector, highest, some, strays}
 use Rattle.vectors.proofs.Bits.{bit, bit_one, bit_apart}
 use Rattle.vectors.proofs.Vectors.{Greatest, highest_is}
 
 pub some_none : {A : Type 0} (a : A) (o : Option A) → o ≡ Some a → o ≡ None → ⊥
-some_none a o e f = let z : ◌≡◌ {A = ℕ} 0 1 = cc in omega arith
-
-pub false_from : (b : Bool) → (b ≡ true → ⊥) → b ≡ false
-false_from true h = absurd (h refl)
-false_from false h = refl
+some_none a o e f = none-some a (sym f ∙ e)
 
 -- the greatest member below n
 
 pub greatest_is : (n : ℕ) (m : ℕ → Bool) (w : ℕ) → Greatest n m w → highest n m ≡ Some w
-greatest_is n m w g = highest_is n w m g.within g.member (λ k a b. false_from (m k) (λ e. let z : k ≤ w = g.top k b e in omega arith))
+greatest_is n m w g = highest_is n w m g.within g.member (λ k a b. false_from_ne_true (m k) (λ e. let z : k ≤ w = g.top k b e in omega arith))
 
 -- every task of v passes the test
 
@@ -25,7 +22,7 @@ all_below zero m h = refl
 all_below (suc n) m h = or_from (m n) (some n m) (h n) (all_below n m h)
 
 pub all_pass : (v : ℕ) (ok : ℕ → Bool) → ((t : ℕ) → in_vector v t ≡ true → ok t ≡ true) → strays v ok ≡ false
-all_pass v ok h = all_below 64 (λ k. in_vector v k && not (ok k)) (λ k. false_from (in_vector v k && not (ok k)) (λ e. let q = and_parts (in_vector v k) (not (ok k)) e in both_ways (ok k) (not-true (ok k) q.1) (h k q.0)))
+all_pass v ok h = all_below 64 (λ k. in_vector v k && not (ok k)) (λ k. false_from_ne_true (in_vector v k && not (ok k)) (λ e. let q = and_parts (in_vector v k) (not (ok k)) e in both_ways (ok k) (not-true (ok k) q.1) (h k q.0)))
 
 -- the vector of one task
 

@@ -3,7 +3,7 @@ use Rattle.vectors.specs.Vectors.{in_vector, with}
 use Rattle.machine.specs.Schedules.{among}
 use Rattle.vectors.proofs.Vectors.{highest_tells, code_without, without_less, empty_vector}
 use Rattle.kernel.specs.Meaning.{schedule_of}
-use Rattle.kernel.specs.Parts.{chain_in, marks_in}
+use Rattle.kernel.specs.Parts.{marks_in}
 use Rattle.kernel.proofs.Joining.{joined, passed, put_in, all_there}
 use Rattle.kernel.proofs.kernel.Kernel.admit.Goals as goal
 
@@ -22,12 +22,12 @@ loop-t-preserved-then-not-has g c =
     let t = c.in-Some.t in
     let rest = c.loop-t.rest in
     let old = m.holds c.loop-t.self.set in
-    let chained = among (chain_in s.core.chain) in
+    let chained = among s.core.chain in
     let top = highest_tells 64 t (in_vector rest) (sym c.highest.ensures ∙ c.in-Some.is) in (
       inv.0,
       c.put.ensures.kept ∙ inv.1,
       ap₂ (λ (f h : ℕ → Bool). joined n f h chained) (code_without rest t top.0) (c.put.ensures.after ∙ ap (λ (j : ℕ). cond (ltb t j) (with t old) old) inv.1)
-          ∙ put_in t n (in_vector rest) old chained top.1 (ap (λ k. among (chain_in k.chain) t) (sym inv.0) ∙ sym c.if-not-has.ensures)
+          ∙ put_in t n (in_vector rest) old chained top.1 (ap (λ k. among k.chain t) (sym inv.0) ∙ sym c.if-not-has.ensures)
           ∙ inv.2,
     )
 
@@ -43,12 +43,12 @@ loop-t-preserved g c =
     let t = c.in-Some.t in
     let rest = c.loop-t.rest in
     let old = m.holds c.loop-t.self.set in
-    let chained = among (chain_in s.core.chain) in
+    let chained = among s.core.chain in
     let top = highest_tells 64 t (in_vector rest) (sym c.highest.ensures ∙ c.in-Some.is) in (
       inv.0,
       inv.1,
       ap (λ (f : ℕ → Bool). joined n f old chained) (code_without rest t top.0)
-          ∙ passed t n (in_vector rest) old chained (ap (λ k. among (chain_in k.chain) t) (sym inv.0) ∙ sym c.if-not-has.ensures)
+          ∙ passed t n (in_vector rest) old chained (ap (λ k. among k.chain t) (sym inv.0) ∙ sym c.if-not-has.ensures)
           ∙ inv.2,
     )
 
@@ -59,7 +59,7 @@ returns g c =
     let u = c.loop-t.self in
     let inv = c.loop-t.invariant in
     let rest = c.loop-t.rest in
-    let done = all_there (m.room s.set) (in_vector rest) (m.holds u.set) (among (chain_in s.core.chain)) (empty_vector rest (sym c.highest.ensures ∙ c.in_default.is)) in
+    let done = all_there (m.room s.set) (in_vector rest) (m.holds u.set) (among s.core.chain) (empty_vector rest (sym c.highest.ensures ∙ c.in_default.is)) in
     record {
       after = ap (λ k. schedule_of k (m.room u.set) (m.holds u.set)) inv.0 ∙ ap₂ (λ (n : ℕ) (f : ℕ → Bool). schedule_of s.core n f) inv.1 (done ∙ inv.2);
       marks = ap marks_in inv.0;

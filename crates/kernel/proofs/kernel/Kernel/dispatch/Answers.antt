@@ -4,7 +4,7 @@ use Rattle.vectors.proofs.Vectors.{highest_tells}
 use Rattle.plan.specs.declared.record.Plan.{Plan}
 use Rattle.plan.specs.Plans.{reaches}
 use Rattle.machine.specs.Schedules.{head, system_ceiling}
-use Rattle.kernel.specs.Parts.{chain_in, held_in}
+use Rattle.kernel.specs.Lists.{entries}
 use Rattle.kernel.specs.Changes.{may_start}
 use Rattle.kernel.proofs.kernel.Kernel.dispatch.Goals as goal
 
@@ -19,5 +19,5 @@ start-requires g c =
     let top = highest_tells (g.R.WaitingSet.room s.set) c.in-Some.w (g.R.WaitingSet.holds s.set) (sym c.highest.ensures ∙ c.in-Some.is) in
     record {
       small = omega (arith, top.0, g.met.R.WaitingSet.small s.set);
-      above = start_high s.core.plan (chain_in s.core.chain) (held_in s.core.held) c.in-Some.w (sym c.if-not-may_start.ensures);
+      above = start_high s.core.plan s.core.chain (entries s.core.held) c.in-Some.w (sym c.if-not-may_start.ensures);
     }

@@ -1,30 +1,23 @@
-use Rattle.std.proofs.Common.{◌≡◌, ℕ, ◌+◌, ◌<◌, ◌≤◌, ◌∷◌, length, get_or, set, sym, ap, ◌∙◌, add-one, arith, rules}
-use Rattle.machine.specs.Schedules.{among}
-use Rattle.kernel.specs.declared.state.Chain.{Chain}
-use Rattle.kernel.specs.Lists.{listed}
-use Rattle.kernel.proofs.Lists.{pushed, written_here, written_before, one_more, noted_more, over_all, depth_le, rising_push}
+use Rattle.std.proofs.Common.{◌≡◌, ℕ, ◌≤◌, false, List, [], ◌∷◌, length, reverse, sym, ap, ◌∙◌, subst, arith}
+use lib.Bits.{bit_or}
+use Rattle.vectors.proofs.Bits.{shifted}
+use Rattle.std.proofs.lemmas.List.{reverse-append, length-reverse}
+use Rattle.plan.specs.Plans.{reaches}
+use Rattle.machine.specs.Schedules.{head}
+use Rattle.kernel.specs.Lists.{IsChain}
+use Rattle.laws.proofs.Lists.{over_chain}
+use Rattle.kernel.proofs.Lists.{chain_room, chain_push}
 use Rattle.kernel.proofs.state.Chain.push.Goals as goal
 
-listed_push : (s : Chain) (w : ℕ) → s.depth < length s.tasks → listed (set s.tasks s.depth w) (s.depth + 1) ≡ w ∷ listed s.tasks s.depth
-listed_push s w l =
-    rw add-one (pushed (λ i. get_or s.tasks i 0) (λ i. get_or (set s.tasks s.depth w) i 0) s.depth w (written_before s.tasks s.depth w 0) (written_here s.tasks s.depth w 0 l))
+pub push-requires : goal.push-requires
+push-requires c =
+    let xs : List ℕ = reverse c.self.inside.tasks.items in
+    let above : reaches (head xs) c.args.w ≡ false = subst (λ ys. reaches (head ys) c.args.w ≡ false) (sym c.self.view_is) c.requires.above in
+    let room : length xs ≤ c.args.w = chain_room xs c.args.w c.self.invariant.falling (over_chain xs c.self.invariant.falling c.args.w above) in
+    (omega (arith, length-reverse c.self.inside.tasks.items, c.requires.small), omega (arith, length-reverse c.self.inside.tasks.items, c.requires.small))
 
 pub invariant_of-self : goal.invariant_of-self
 invariant_of-self c =
-    let s = c.args.self.now in
-    let w = c.args.w in
-    let f : ℕ → ℕ = λ i. get_or s.tasks i 0 in
-    let g : ℕ → ℕ = λ i. get_or (set s.tasks s.depth w) i 0 in
-    let le : s.depth ≤ w = depth_le f s.depth w s.tall c.requires.above in
-    let small : w < 64 = c.requires.small in
-    let long : s.depth < length s.tasks = search rules in
-    let here : g s.depth ≡ w = written_here s.tasks s.depth w 0 long in
-    let before : (i : ℕ) → i < s.depth → g i ≡ f i = written_before s.tasks s.depth w 0 in record { deep = omega arith; tall = one_more (λ i. (i ≤ g i) × (g i < 64)) s.depth (λ i l. (omega (arith, before i l, (s.tall i l).0), omega (arith, before i l, (s.tall i l).1))) (omega arith, omega arith); rising = rising_push f g s.depth w before here (over_all f s.depth w s.rising c.requires.above) s.rising; noted = (λ t. noted_more s.started w (listed s.tasks s.depth) small s.noted t ∙ ap (λ xs. among xs t) (sym (listed_push s w long))) }
-
-pub returns : goal.returns
-returns c =
-    let s = c.args.self.now in
-    let le : s.depth ≤ c.args.w = depth_le (λ i. get_or s.tasks i 0) s.depth c.args.w s.tall c.requires.above in
-    let small : c.args.w < 64 = c.requires.small in
-    let long : s.depth < length s.tasks = search rules in
-    listed_push s c.args.w long
+    let xs : List ℕ = reverse c.self.inside.tasks.items in
+    let above : reaches (head xs) c.args.w ≡ false = subst (λ ys. reaches (head ys) c.args.w ≡ false) (sym c.self.view_is) c.requires.above in
+    subst (λ (ys : List ℕ). IsChain ys (bit_or c.self.inside.started (shifted 64 c.args.w))) (sym (ap reverse c.push.ensures.items ∙ reverse-append c.self.inside.tasks.items (c.args.w ∷ []))) (chain_push xs c.self.inside.started c.args.w c.self.invariant c.requires.small above)

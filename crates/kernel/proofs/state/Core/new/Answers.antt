@@ -1,7 +1,6 @@
-use Rattle.std.proofs.Common.{refl, ap}
-use Rattle.kernel.specs.Lists.{held_of}
+use Rattle.std.proofs.Common.{refl}
 use Rattle.kernel.proofs.Marking.{no_marks}
 use Rattle.kernel.proofs.state.Core.new.Goals as goal
 
 pub returns : goal.returns
-returns c = record { plan = refl; chain = c.new.ensures; held = ap (held_of _) c.new-2.ensures; marks = no_marks }
+returns c = record { plan = refl; chain = c.new.ensures; held = c.new-2.ensures; marks = no_marks }

@@ -1,13 +1,14 @@
-use Rattle.std.proofs.Common.{◌≡◌, ℕ, ◌-◌, ◌<◌, false, get_or, ap, ◌∙◌, arith}
-use Rattle.machine.specs.Schedules.{among}
-use Rattle.kernel.specs.Lists.{no_lock, resources_of}
-use Rattle.kernel.proofs.Lists.{split, not_among, noted_less}
+use Rattle.std.proofs.Common.{◌≡◌, List, [], ◌∷◌, ◌++◌, reverse, None, Some, Option, ap, ◌∙◌, subst, append-nil}
+use Rattle.std.specs.Option.{option_to_list}
+use Rattle.std.proofs.lemmas.List.{reverse-append}
+use Rattle.kernel.specs.declared.held_lock.HeldLock.{HeldLock}
+use Rattle.kernel.specs.Lists.{IsHeldList}
+use Rattle.kernel.proofs.Lists.{locked_less}
 use Rattle.kernel.proofs.state.HeldList.pop.Goals as goal
 
+without_newest : (xs ys : List HeldLock) (o : Option HeldLock) → xs ≡ ys ++ option_to_list o → IsHeldList (reverse xs) → IsHeldList (reverse ys)
+without_newest xs ys None e h = subst (λ (zs : List HeldLock). IsHeldList (reverse zs)) (e ∙ append-nil ys) h
+without_newest xs ys (Some l) e h = locked_less l (reverse ys) (subst (λ (zs : List HeldLock). IsHeldList zs) (ap reverse e ∙ reverse-append ys (l ∷ [])) h)
+
 pub invariant_of-self : goal.invariant_of-self
-invariant_of-self c =
-    let s = c.args.self.now in
-    let f : ℕ → ℕ = λ i. (get_or s.locks i no_lock).resource in
-    let n : ℕ = s.count - 1 in
-    let some : 0 < s.count = c.if-count-gt0.true in
-    let gone : among (resources_of s.locks n) (f n) ≡ false = not_among f n (f n) (λ i l e. s.apart i n l (omega arith) e) in record { few = omega arith; named = (λ i l. s.named i (omega arith)); apart = (λ i j a b. s.apart i j a (omega arith)); nested = (λ i j a b. s.nested i j a (omega arith)); noted = noted_less s.taken (f n) (resources_of s.locks n) (omega (arith, s.named n (omega arith))) gone (λ t. s.noted t ∙ ap (λ xs. among xs t) (split f s.count some)) }
+invariant_of-self c = without_newest c.self.inside.locks.items c.pop.new.self.items c.pop.result c.pop.ensures.items c.self.invariant
