@@ -2,7 +2,7 @@
 use letters::token::Token;
 
 // The kinds of objects.
-#[derive(Clone, Copy)]
+#[derive(Clone, Copy, PartialEq, Debug)]
 pub enum Kind {
     Resource,
     Event,

@@ -34,10 +34,10 @@ fn numeral(text: &[u8], pos: usize) -> Result<(u32, Token), GrammarFault>
     ensures { result ≡ numeral_at text.now pos }
 {
     let token = token(text, pos)?;
-    match token.what {
-        What::Number(value) => Ok((value, token)),
-        _ => Err(misplaced(token.place)),
-    }
+    let What::Number(value) = token.what else {
+        return Err(misplaced(token.place));
+    };
+    Ok((value, token))
 }
 
 // The kind of object that the token is the keyword of.
@@ -68,9 +68,7 @@ fn object(text: &[u8], pos: usize) -> Result<Step, GrammarFault>
             pos: end,
         });
     }
-    let Some(kind) = heading_of(text, first) else {
-        return Err(misplaced(first.place));
-    };
+    let kind = heading_of(text, first).ok_or(misplaced(first.place))?;
     let name = name(text, first.end)?;
     Ok(Step {
         item: Item::Declares(kind, name),
@@ -91,10 +89,8 @@ fn attribute(text: &[u8], pos: usize) -> Result<Step, GrammarFault>
             pos: first.end,
         });
     }
-    let kind = match heading_of(text, first) {
-        Some(Kind::Resource) => Kind::Resource,
-        Some(Kind::Event) => Kind::Event,
-        _ => return Err(misplaced(first.place)),
+    let Some(kind @ (Kind::Resource | Kind::Event)) = heading_of(text, first) else {
+        return Err(misplaced(first.place));
     };
     let after = expect(text, first.end, Slot::Mark(Mark::Equals))?;
     let name = name(text, after)?;

@@ -3,10 +3,9 @@ ghost use Rattle.std.specs.Prelude.{◌≡◌};
 ghost use Rattle.grammar.specs.Slots.{admits, lexed, expected, followed};
 
 use crate::fault::{GrammarFault, misplaced};
-use crate::word::{Word, spelling, spells};
+use crate::word::{Word, spelling};
 use letters::lexer::next;
-use letters::slices::cut;
-use letters::token::{Mark, Token, What, same};
+use letters::token::{Mark, Token, What, bytes_of, same};
 
 #[derive(Clone, Copy)]
 pub enum Slot {
@@ -22,10 +21,10 @@ pub(crate) fn fits(text: &[u8], slot: Slot, token: Token) -> bool
     ensures { result ≡ admits text.now slot token }
 {
     match (slot, token.what) {
-        (Slot::Word(word), What::Name) => spells(text, token, spelling(word)),
+        (Slot::Word(word), What::Name) => bytes_of(text, token) == spelling(word),
         (Slot::Mark(mark), What::Mark(found)) => same(mark, found),
         (Slot::AnyName, What::Name) => true,
-        (Slot::Version, What::Quoted) => spells(text, token, b"\"2.5\""),
+        (Slot::Version, What::Quoted) => bytes_of(text, token) == b"\"2.5\"".as_slice(),
         (Slot::End, What::End) => true,
         _ => false,
     }
@@ -35,8 +34,7 @@ pub(crate) fn fits(text: &[u8], slot: Slot, token: Token) -> bool
 pub(crate) fn token(text: &[u8], pos: usize) -> Result<Token, GrammarFault>
     ensures { result ≡ lexed text.now pos }
 {
-    let token = next(text, pos)?;
-    Ok(token)
+    Ok(next(text, pos)?)
 }
 
 // Reads a token that has to stand at the slot, and says where the text goes on.
@@ -56,10 +54,8 @@ pub(crate) fn follow(text: &[u8], pos: usize, slots: &[Slot]) -> Result<usize, G
     ensures { result ≡ followed text.now slots.now pos }
 {
     let mut at = pos;
-    let mut rest = slots;
-    while let Some((slot, after)) = cut(rest) {
-        at = expect(text, at, slot)?;
-        rest = after;
+    for slot in slots {
+        at = expect(text, at, *slot)?;
     }
     Ok(at)
 }

@@ -3,7 +3,6 @@ ghost use Rattle.std.specs.Prelude.{◌≡◌, ◌<◌, ◌≤◌, true, false, 
 ghost use Rattle.letters.specs.Blanks.{blanks, begins as begins_with, skip};
 
 use crate::bytes::is_blank;
-use crate::slices::cut;
 
 // Does the text begin with this byte?
 pub(crate) fn begins(text: &[u8], byte: u8) -> bool
@@ -36,8 +35,8 @@ pub(crate) fn blanks_len(text: &[u8]) -> usize
     let mut rest = text;
     let mut count = 0;
     let mut comment = false;
-    while let Some((first, after)) = cut(rest) {
-        let Some(next) = skips(comment, first, after) else {
+    while let [first, after @ ..] = rest {
+        let Some(next) = skips(comment, *first, after) else {
             break;
         };
         comment = next;

@@ -44,9 +44,7 @@ fn token_at(text: &[u8], place: usize) -> Result<Token, LettersFault>
         return name(place, 1 + name_len(after));
     }
     if first.is_ascii_digit() {
-        let Some((value, count)) = number(first, after) else {
-            return Err(fault);
-        };
+        let (value, count) = number(first, after).ok_or(fault)?;
         return Ok(Token {
             what: What::Number(value),
             place,
@@ -56,9 +54,7 @@ fn token_at(text: &[u8], place: usize) -> Result<Token, LettersFault>
     if first == b'"' {
         return string(place, after);
     }
-    let Some(mark) = mark_of(char::from(first)) else {
-        return Err(fault);
-    };
+    let mark = mark_of(char::from(first)).ok_or(fault)?;
     Ok(Token {
         what: What::Mark(mark),
         place,

@@ -6,7 +6,6 @@ ghost use Rattle.letters.specs.Tokens.{name_at};
 
 use crate::bytes::goes_on_name;
 use crate::fault::{LettersCause, LettersFault};
-use crate::slices::cut;
 use crate::token::{Token, What};
 
 // How many bytes the text begins with that go on a name.
@@ -14,10 +13,11 @@ pub(crate) fn name_len(text: &[u8]) -> usize
     ensures count { result ≡ prefix_len name_byte text.now }
     ensures bound { result ≤ length text.now }
 {
+    // By hand: `take_while` with `count` costs layrun 4 % more instructions.
     let mut rest = text;
     let mut count = 0;
-    while let Some((first, after)) = cut(rest) {
-        if !goes_on_name(first) {
+    while let [first, after @ ..] = rest {
+        if !goes_on_name(*first) {
             break;
         }
         count += 1;

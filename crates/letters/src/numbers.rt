@@ -2,8 +2,6 @@
 ghost use Rattle.std.specs.Prelude.{◌≡◌, ◌+◌, ◌-◌, ◌<◌, ◌≤◌, length, IfSome};
 ghost use Rattle.letters.specs.Tokens.{digits};
 
-use crate::slices::cut;
-
 // The number of a first digit and the digits after it, and how many they are: none where they are more than nine.
 pub(crate) fn number(digit: u8, text: &[u8]) -> Option<(u32, usize)>
     requires { (48 ≤ digit) × (digit < 58) }
@@ -13,14 +11,14 @@ pub(crate) fn number(digit: u8, text: &[u8]) -> Option<(u32, usize)>
     let mut rest = text;
     let mut count = 1;
     let mut value = u32::from(digit - b'0');
-    while let Some((first, after)) = cut(rest) {
+    while let [first, after @ ..] = rest {
         if !first.is_ascii_digit() {
             break;
         }
         if count == 9 {
             return None;
         }
-        value = value * 10 + u32::from(first - b'0');
+        value = value * 10 + u32::from(*first - b'0');
         count += 1;
         rest = after;
     }

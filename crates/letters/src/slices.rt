@@ -16,5 +16,5 @@ pub fn rest_from(text: &[u8], pos: usize) -> &[u8]
     ensures value { result.now ≡ drop pos text.now }
     ensures len { length result.now ≡ length text.now - pos }
 {
-    if pos <= text.len() { &text[pos..] } else { &[] }
+    text.get(pos..).unwrap_or(&[])
 }

@@ -7,7 +7,7 @@ ghost use Rattle.letters.specs.Tokens.{string_at};
 use crate::blanks::begins;
 use crate::bytes::in_string;
 use crate::fault::{LettersCause, LettersFault};
-use crate::slices::{cut, rest_from};
+use crate::slices::rest_from;
 use crate::token::{Token, What};
 
 // How many bytes the text begins with that a string may hold.
@@ -15,16 +15,7 @@ fn string_len(text: &[u8]) -> usize
     ensures count { result ≡ prefix_len inside text.now }
     ensures bound { result ≤ length text.now }
 {
-    let mut rest = text;
-    let mut count = 0;
-    while let Some((first, after)) = cut(rest) {
-        if !in_string(first) {
-            break;
-        }
-        count += 1;
-        rest = after;
-    }
-    count
+    text.iter().take_while(|b| in_string(**b)).count()
 }
 
 // A string whose opening quote stands at `place`, before `text`.
