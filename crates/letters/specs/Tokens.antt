@@ -25,8 +25,12 @@ abbrev pub measured : List ℕ → Result (Unit {0}) LettersFault
 measured text = cond (nat_lt 32768 (length text)) (Err (fault cause.TooLong 32768)) (Ok tt)
 
 -- A token from place on, of n bytes.
+abbrev pub spanning : What → ℕ → ℕ → Token
+spanning w place n = record { what = w; place = place; end = place + n }
+
+-- The same, as what is read.
 abbrev pub token : What → ℕ → ℕ → Lexed
-token w place n = Ok (record { what = w; place = place; end = place + n })
+token w place n = Ok (spanning w place n)
 
 -- No lawful token begins at the place.
 abbrev pub unlawful : ℕ → Lexed

@@ -9,7 +9,7 @@ pub(crate) fn begins(text: &[u8], byte: u8) -> bool
     ensures value { result ≡ begins_with byte text.now }
     ensures some { result ≡ true → 0 < length text.now }
 {
-    matches!(text, [b, ..] if *b == byte)
+    text.first() == Some(&byte)
 }
 
 // Whether the next byte is in a comment, where this one is a blank or of a comment; none where it is neither.

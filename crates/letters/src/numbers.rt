@@ -2,6 +2,8 @@
 ghost use Rattle.std.specs.Prelude.{◌≡◌, ◌+◌, ◌-◌, ◌<◌, ◌≤◌, length, IfSome};
 ghost use Rattle.letters.specs.Tokens.{digits};
 
+use crate::limits::MOST_DIGITS;
+
 // The number of a first digit and the digits after it, and how many they are: none where they are more than nine.
 pub(crate) fn number(digit: u8, text: &[u8]) -> Option<(u32, usize)>
     requires { (48 ≤ digit) × (digit < 58) }
@@ -15,7 +17,7 @@ pub(crate) fn number(digit: u8, text: &[u8]) -> Option<(u32, usize)>
         if !first.is_ascii_digit() {
             break;
         }
-        if count == 9 {
+        if count == MOST_DIGITS {
             return None;
         }
         value = value * 10 + u32::from(*first - b'0');

@@ -6,7 +6,8 @@ ghost use Rattle.letters.specs.Tokens.{string_at};
 
 use crate::blanks::begins;
 use crate::bytes::in_string;
-use crate::fault::{LettersCause, LettersFault};
+use crate::fault::LettersFault;
+use crate::limits::LONGEST_WORD;
 use crate::slices::rest_from;
 use crate::token::{Token, What};
 
@@ -23,21 +24,10 @@ pub(crate) fn string(place: usize, text: &[u8]) -> Result<Token, LettersFault>
     requires { place + 1 + length text.now < 2 ^ 64 }
     ensures { result ≡ string_at place (prefix_len inside text.now) (drop (prefix_len inside text.now) text.now) }
 {
-    let fault = LettersFault {
-        cause: LettersCause::NoToken,
-        place,
-    };
     let count = string_len(text);
-    if count > 32 {
-        return Err(fault);
-    }
-    if begins(rest_from(text, count), b'"') {
-        Ok(Token {
-            what: What::Quoted,
-            place,
-            end: place + (count + 2),
-        })
+    if count <= LONGEST_WORD && begins(rest_from(text, count), b'"') {
+        Ok(Token::new(What::Quoted, place, count + 2))
     } else {
-        Err(fault)
+        Err(LettersFault::no_token(place))
     }
 }
