@@ -1,8 +1,10 @@
 // Why the tokens of a text are refused.
-ghost use Rattle.std.specs.Prelude.{◌≡◌};
+ghost use Rattle.std.specs.Prelude.{◌≡◌, Some};
 ghost use Rattle.grammar.specs.Faults.{raised, misplaced as misplaced_at, explanation};
 
 use letters::fault::{LettersCause, LettersFault};
+use std::error::Error;
+use std::fmt::{self, Display, Formatter, Write};
 
 #[derive(Clone, Copy, PartialEq, Debug)]
 pub enum GrammarCause {
@@ -22,6 +24,16 @@ impl GrammarCause {
         }
     }
 }
+
+impl Display for GrammarCause {
+    ghost output = { λ cause. Some (explanation cause) };
+
+    fn fmt<W: Write>(&self, f: &mut Formatter<W>) -> fmt::Result {
+        f.write_str(self.explain())
+    }
+}
+
+impl Error for GrammarCause {}
 
 // A cause, and the byte of the text where it was found.
 #[derive(Clone, Copy, PartialEq, Debug)]

@@ -1,13 +1,13 @@
 // Slots: what may stand at one place of a text.
 ghost use Rattle.std.specs.Prelude.{◌≡◌};
-ghost use Rattle.grammar.specs.Slots.{admits, lexed, expected, followed};
+ghost use Rattle.grammar.specs.Slots.{admits, expected, followed};
 
 use crate::fault::{GrammarFault, misplaced};
 use crate::word::{Word, spelling};
 use letters::lexer::next;
-use letters::token::{Mark, Token, What, bytes_of, same};
+use letters::token::{Mark, Token, What, bytes_of};
 
-#[derive(Clone, Copy)]
+#[derive(Clone, Copy, PartialEq, Debug)]
 pub enum Slot {
     Word(Word),
     Mark(Mark),
@@ -22,7 +22,7 @@ pub(crate) fn fits(text: &[u8], slot: Slot, token: Token) -> bool
 {
     match (slot, token.what) {
         (Slot::Word(word), What::Name) => bytes_of(text, token) == spelling(word),
-        (Slot::Mark(mark), What::Mark(found)) => same(mark, found),
+        (Slot::Mark(mark), What::Mark(found)) => mark == found,
         (Slot::AnyName, What::Name) => true,
         (Slot::Version, What::Quoted) => bytes_of(text, token) == b"\"2.5\"".as_slice(),
         (Slot::End, What::End) => true,
@@ -30,18 +30,11 @@ pub(crate) fn fits(text: &[u8], slot: Slot, token: Token) -> bool
     }
 }
 
-// The next token.
-pub(crate) fn token(text: &[u8], pos: usize) -> Result<Token, GrammarFault>
-    ensures { result ≡ lexed text.now pos }
-{
-    Ok(next(text, pos)?)
-}
-
 // Reads a token that has to stand at the slot, and says where the text goes on.
 pub(crate) fn expect(text: &[u8], pos: usize, slot: Slot) -> Result<usize, GrammarFault>
     ensures { result ≡ expected text.now slot pos }
 {
-    let token = token(text, pos)?;
+    let token = next(text, pos)?;
     if fits(text, slot, token) {
         Ok(token.end)
     } else {
