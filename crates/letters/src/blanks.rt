@@ -33,15 +33,12 @@ pub(crate) fn blanks_len(text: &[u8]) -> usize
     ensures bound { result ≤ length text.now }
 {
     let mut rest = text;
-    let mut count = 0;
     let mut comment = false;
-    while let [first, after @ ..] = rest {
-        let Some(next) = skips(comment, *first, after) else {
-            break;
-        };
+    while let [first, after @ ..] = rest
+        && let Some(next) = skips(comment, *first, after)
+    {
         comment = next;
-        count += 1;
         rest = after;
     }
-    count
+    text.len() - rest.len()
 }

@@ -13,10 +13,9 @@ pub(crate) fn number(digit: u8, text: &[u8]) -> Option<(u32, usize)>
     let mut rest = text;
     let mut count = 1;
     let mut value = u32::from(digit - b'0');
-    while let [first, after @ ..] = rest {
-        if !first.is_ascii_digit() {
-            break;
-        }
+    while let [first, after @ ..] = rest
+        && first.is_ascii_digit()
+    {
         if count == MOST_DIGITS {
             return None;
         }
