@@ -1,6 +1,6 @@
 // Why the tokens of a text are refused.
 ghost use Rattle.std.specs.Prelude.{◌≡◌, Some};
-ghost use Rattle.grammar.specs.Faults.{raised, misplaced as misplaced_at, explanation};
+ghost use Rattle.grammar.specs.Faults.{raised, misplaced, explanation};
 
 use letters::fault::{LettersCause, LettersFault};
 use std::error::Error;
@@ -35,7 +35,7 @@ impl Display for GrammarCause {
 
 impl Error for GrammarCause {}
 
-// A cause, and the byte of the text where it was found.
+// A cause, and the byte of the text where it was found. No generic struct of all layers: see `LettersFault`.
 #[derive(Clone, Copy, PartialEq, Debug)]
 pub struct GrammarFault {
     pub cause: GrammarCause,
@@ -53,12 +53,14 @@ impl From<LettersFault> for GrammarFault {
     }
 }
 
-// The fault of a token that may not stand where it stands.
-pub fn misplaced(place: usize) -> GrammarFault
-    ensures { result ≡ misplaced_at place }
-{
-    GrammarFault {
-        cause: GrammarCause::Misplaced,
-        place,
+impl GrammarFault {
+    // A token may not stand where it stands.
+    pub fn misplaced(place: usize) -> GrammarFault
+        ensures { result ≡ misplaced place }
+    {
+        GrammarFault {
+            cause: GrammarCause::Misplaced,
+            place,
+        }
     }
 }

@@ -1,8 +1,10 @@
 // From item to item.
+// A text and a place in it are passed on as they are: so one equation says all that a call does, as `result ≡ item_at text.now state pos`.
+// A parser that moves along would need two, one for the answer and one for where it stands then.
 ghost use Rattle.std.specs.Prelude.{◌≡◌};
 ghost use Rattle.grammar.specs.Items.{begun, named, numeral_at, heading, object_at, attribute_at, item_at};
 
-use crate::fault::{GrammarFault, misplaced};
+use crate::fault::GrammarFault;
 use crate::item::{Item, Kind, State, Step};
 use crate::slot::{Slot, expect, fits, follow};
 use crate::template::slots_after;
@@ -18,14 +20,14 @@ pub fn begin(text: &[u8]) -> Result<State, GrammarFault>
     Ok(State::Start)
 }
 
-// Reads a name.
+// Reads a name. `expect`, this and `numeral` were tried as one function that takes the test as a closure: no proof closed at these three calls.
 fn name(text: &[u8], pos: usize) -> Result<Token, GrammarFault>
     ensures { result ≡ named text.now pos }
 {
     let token = next(text, pos)?;
     match token.what {
         What::Name => Ok(token),
-        _ => Err(misplaced(token.place)),
+        _ => Err(GrammarFault::misplaced(token.place)),
     }
 }
 
@@ -35,7 +37,7 @@ fn numeral(text: &[u8], pos: usize) -> Result<(u32, Token), GrammarFault>
 {
     let token = next(text, pos)?;
     let What::Number(value) = token.what else {
-        return Err(misplaced(token.place));
+        return Err(GrammarFault::misplaced(token.place));
     };
     Ok((value, token))
 }
@@ -66,7 +68,7 @@ fn object(text: &[u8], pos: usize) -> Result<Step, GrammarFault>
         let end = follow(text, first.end, &[Slot::Mark(Mark::Semicolon), Slot::End])?;
         return Ok(Step::new(Item::End, State::Closed, end));
     }
-    let kind = heading_of(text, first).ok_or(misplaced(first.place))?;
+    let kind = heading_of(text, first).ok_or(GrammarFault::misplaced(first.place))?;
     let name = name(text, first.end)?;
     Ok(Step::new(Item::Declares(kind, name), State::Declared(kind), name.end))
 }
@@ -80,7 +82,7 @@ fn attribute(text: &[u8], pos: usize) -> Result<Step, GrammarFault>
         return Ok(Step::new(Item::Closes, State::Closed, first.end));
     }
     let Some(kind @ (Kind::Resource | Kind::Event)) = heading_of(text, first) else {
-        return Err(misplaced(first.place));
+        return Err(GrammarFault::misplaced(first.place));
     };
     let after = expect(text, first.end, Slot::Mark(Mark::Equals))?;
     let name = name(text, after)?;

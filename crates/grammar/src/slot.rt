@@ -2,7 +2,7 @@
 ghost use Rattle.std.specs.Prelude.{◌≡◌};
 ghost use Rattle.grammar.specs.Slots.{admits, expected, followed};
 
-use crate::fault::{GrammarFault, misplaced};
+use crate::fault::GrammarFault;
 use crate::word::{Word, spelling};
 use letters::lexer::next;
 use letters::token::{Mark, Token, What, bytes_of};
@@ -38,7 +38,7 @@ pub(crate) fn expect(text: &[u8], pos: usize, slot: Slot) -> Result<usize, Gramm
     if fits(text, slot, token) {
         Ok(token.end)
     } else {
-        Err(misplaced(token.place))
+        Err(GrammarFault::misplaced(token.place))
     }
 }
 
