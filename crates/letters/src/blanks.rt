@@ -32,6 +32,7 @@ pub(crate) fn blanks_len(text: &[u8]) -> usize
     ensures count { result ≡ blanks false text.now }
     ensures bound { result ≤ length text.now }
 {
+    // A loop: whether a byte is skipped may depend on the one after it.
     let mut rest = text;
     let mut comment = false;
     while let [first, after @ ..] = rest

@@ -14,7 +14,7 @@ pub enum Mark {
 }
 
 impl Mark {
-    // The mark that a character is.
+    // The mark that a character is. No TryFrom: its error could say no more than none.
     pub(crate) fn of(c: char) -> Option<Mark>
         ensures { result ≡ mark_of c }
     {
