@@ -1,6 +1,6 @@
 // From item to item.
-// A text and a place in it are passed on as they are: so one equation says all that a call does, as `result ≡ item_at text.now state pos`.
-// A parser that moves along would need two, one for the answer and one for where it stands then.
+// A text and a place in it are passed on as they are, so that one equation says all that a call does, as
+// `result ≡ item_at text.now state pos`: a parser that moves on needs two, for its answer and for where it stands then.
 ghost use Rattle.std.specs.Prelude.{◌≡◌};
 ghost use Rattle.grammar.specs.Items.{begun, named, numeral_at, heading, object_at, attribute_at, item_at};
 
@@ -20,14 +20,16 @@ pub fn begin(text: &[u8]) -> Result<State, GrammarFault>
     Ok(State::Start)
 }
 
-// Reads a name. `expect`, this and `numeral` were tried as one function that takes the test as a closure: no proof closed at these three calls.
+// Reads a name. One function for this, `numeral` and `expect`, with the test as a closure, was tried: what the three
+// promise was not proved from its clause.
 fn name(text: &[u8], pos: usize) -> Result<Token, GrammarFault>
     ensures { result ≡ named text.now pos }
 {
     let token = next(text, pos)?;
-    match token.what {
-        What::Name => Ok(token),
-        _ => Err(GrammarFault::misplaced(token.place)),
+    if token.what == What::Name {
+        Ok(token)
+    } else {
+        Err(GrammarFault::misplaced(token.place))
     }
 }
 

@@ -11,7 +11,8 @@ use crate::limits::LONGEST_WORD;
 use crate::slices::rest_from;
 use crate::token::{Token, What};
 
-// How many bytes the text begins with that a string may hold.
+// How many bytes the text begins with that a string may hold. One function for this and `name_len`, with the test as a
+// closure, was tried: its clause, for each rule that the closure's answers keep, was not proved.
 fn string_len(text: &[u8]) -> usize
     ensures count { result ≡ prefix_len inside text.now }
     ensures bound { result ≤ length text.now }
