@@ -26,10 +26,7 @@ begun text = and_then (lifted (measured text)) (λ _. Ok state.Start)
 -- The token itself, where it is a name.
 abbrev pub if_name : Token → What → Result Token GrammarFault
 if_name t what.Name = Ok t
-if_name t (what.Number n) = Err (misplaced t.place)
-if_name t what.Quoted = Err (misplaced t.place)
-if_name t (what.Mark c) = Err (misplaced t.place)
-if_name t what.End = Err (misplaced t.place)
+if_name t w = Err (misplaced t.place)
 
 -- The next token, which has to be a name.
 abbrev pub named : List ℕ → ℕ → Result Token GrammarFault
@@ -37,11 +34,8 @@ named text pos = and_then (lexed text pos) (λ t. if_name t t.what)
 
 -- The value of the token and the token itself, where it is a number.
 abbrev pub if_number : Token → What → Result (ℕ × Token) GrammarFault
-if_number t what.Name = Err (misplaced t.place)
 if_number t (what.Number n) = Ok (n, t)
-if_number t what.Quoted = Err (misplaced t.place)
-if_number t (what.Mark c) = Err (misplaced t.place)
-if_number t what.End = Err (misplaced t.place)
+if_number t w = Err (misplaced t.place)
 
 -- The next token, which has to be a number.
 abbrev pub numeral_at : List ℕ → ℕ → Result (ℕ × Token) GrammarFault

@@ -1,8 +1,10 @@
 // Why the tokens of a text are refused.
-ghost use Rattle.std.specs.Prelude.{◌≡◌};
-ghost use Rattle.grammar.specs.Faults.{raised, misplaced as misplaced_at, explanation};
+ghost use Rattle.std.specs.Prelude.{◌≡◌, Some};
+ghost use Rattle.grammar.specs.Faults.{raised, misplaced, explanation};
 
 use letters::fault::{LettersCause, LettersFault};
+use std::error::Error;
+use std::fmt::{self, Display, Formatter, Write};
 
 #[derive(Clone, Copy, PartialEq, Debug)]
 pub enum GrammarCause {
@@ -23,7 +25,17 @@ impl GrammarCause {
     }
 }
 
-// A cause, and the byte of the text where it was found.
+impl Display for GrammarCause {
+    ghost output = { λ cause. Some (explanation cause) };
+
+    fn fmt<W: Write>(&self, f: &mut Formatter<W>) -> fmt::Result {
+        f.write_str(self.explain())
+    }
+}
+
+impl Error for GrammarCause {}
+
+// A cause, and the byte of the text where it was found. No generic struct of all layers: see `LettersFault`.
 #[derive(Clone, Copy, PartialEq, Debug)]
 pub struct GrammarFault {
     pub cause: GrammarCause,
@@ -41,12 +53,14 @@ impl From<LettersFault> for GrammarFault {
     }
 }
 
-// The fault of a token that may not stand where it stands.
-pub fn misplaced(place: usize) -> GrammarFault
-    ensures { result ≡ misplaced_at place }
-{
-    GrammarFault {
-        cause: GrammarCause::Misplaced,
-        place,
+impl GrammarFault {
+    // A token may not stand where it stands.
+    pub fn misplaced(place: usize) -> GrammarFault
+        ensures { result ≡ misplaced place }
+    {
+        GrammarFault {
+            cause: GrammarCause::Misplaced,
+            place,
+        }
     }
 }

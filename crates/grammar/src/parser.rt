@@ -1,13 +1,15 @@
 // From item to item.
+// A text and a place in it are passed on as they are, so that one equation says all that a call does, as
+// `result ≡ item_at text.now state pos`: a parser that moves on needs two, for its answer and for where it stands then.
 ghost use Rattle.std.specs.Prelude.{◌≡◌};
 ghost use Rattle.grammar.specs.Items.{begun, named, numeral_at, heading, object_at, attribute_at, item_at};
 
-use crate::fault::{GrammarFault, misplaced};
+use crate::fault::GrammarFault;
 use crate::item::{Item, Kind, State, Step};
-use crate::slot::{Slot, expect, fits, follow, token};
+use crate::slot::{Slot, expect, fits, follow};
 use crate::template::slots_after;
 use crate::word::Word;
-use letters::lexer::measure;
+use letters::lexer::{measure, next};
 use letters::token::{Mark, Token, What};
 
 // The state at the start of a text that is short enough to be read.
@@ -18,14 +20,16 @@ pub fn begin(text: &[u8]) -> Result<State, GrammarFault>
     Ok(State::Start)
 }
 
-// Reads a name.
+// Reads a name. One function for this, `numeral` and `expect`, with the test as a closure, was tried: what the three
+// promise was not proved from its clause.
 fn name(text: &[u8], pos: usize) -> Result<Token, GrammarFault>
     ensures { result ≡ named text.now pos }
 {
-    let token = token(text, pos)?;
-    match token.what {
-        What::Name => Ok(token),
-        _ => Err(misplaced(token.place)),
+    let token = next(text, pos)?;
+    if token.what == What::Name {
+        Ok(token)
+    } else {
+        Err(GrammarFault::misplaced(token.place))
     }
 }
 
@@ -33,22 +37,24 @@ fn name(text: &[u8], pos: usize) -> Result<Token, GrammarFault>
 fn numeral(text: &[u8], pos: usize) -> Result<(u32, Token), GrammarFault>
     ensures { result ≡ numeral_at text.now pos }
 {
-    let token = token(text, pos)?;
-    match token.what {
-        What::Number(value) => Ok((value, token)),
-        _ => Err(misplaced(token.place)),
-    }
+    let token = next(text, pos)?;
+    let What::Number(value) = token.what else {
+        return Err(GrammarFault::misplaced(token.place));
+    };
+    Ok((value, token))
 }
 
 // The kind of object that the token is the keyword of.
 fn heading_of(text: &[u8], token: Token) -> Option<Kind>
     ensures { result ≡ heading text.now token }
 {
-    if fits(text, Slot::Word(Word::Resource), token) {
+    // By `fits`: a match on the bytes would spell the keywords a second time.
+    let fits_word = |word| fits(text, Slot::Word(word), token);
+    if fits_word(Word::Resource) {
         Some(Kind::Resource)
-    } else if fits(text, Slot::Word(Word::Event), token) {
+    } else if fits_word(Word::Event) {
         Some(Kind::Event)
-    } else if fits(text, Slot::Word(Word::Task), token) {
+    } else if fits_word(Word::Task) {
         Some(Kind::Task)
     } else {
         None
@@ -59,50 +65,30 @@ fn heading_of(text: &[u8], token: Token) -> Option<Kind>
 fn object(text: &[u8], pos: usize) -> Result<Step, GrammarFault>
     ensures { result ≡ object_at text.now pos }
 {
-    let first = token(text, pos)?;
+    let first = next(text, pos)?;
     if fits(text, Slot::Mark(Mark::Close), first) {
         let end = follow(text, first.end, &[Slot::Mark(Mark::Semicolon), Slot::End])?;
-        return Ok(Step {
-            item: Item::End,
-            state: State::Closed,
-            pos: end,
-        });
+        return Ok(Step::new(Item::End, State::Closed, end));
     }
-    let Some(kind) = heading_of(text, first) else {
-        return Err(misplaced(first.place));
-    };
+    let kind = heading_of(text, first).ok_or(GrammarFault::misplaced(first.place))?;
     let name = name(text, first.end)?;
-    Ok(Step {
-        item: Item::Declares(kind, name),
-        state: State::Declared(kind),
-        pos: name.end,
-    })
+    Ok(Step::new(Item::Declares(kind, name), State::Declared(kind), name.end))
 }
 
 // Reads a reference of a task, or the end of the task.
 fn attribute(text: &[u8], pos: usize) -> Result<Step, GrammarFault>
     ensures { result ≡ attribute_at text.now pos }
 {
-    let first = token(text, pos)?;
+    let first = next(text, pos)?;
     if fits(text, Slot::Mark(Mark::Close), first) {
-        return Ok(Step {
-            item: Item::Closes,
-            state: State::Closed,
-            pos: first.end,
-        });
+        return Ok(Step::new(Item::Closes, State::Closed, first.end));
     }
-    let kind = match heading_of(text, first) {
-        Some(Kind::Resource) => Kind::Resource,
-        Some(Kind::Event) => Kind::Event,
-        _ => return Err(misplaced(first.place)),
+    let Some(kind @ (Kind::Resource | Kind::Event)) = heading_of(text, first) else {
+        return Err(GrammarFault::misplaced(first.place));
     };
     let after = expect(text, first.end, Slot::Mark(Mark::Equals))?;
     let name = name(text, after)?;
-    Ok(Step {
-        item: Item::Refers(kind, name),
-        state: State::Referred,
-        pos: name.end,
-    })
+    Ok(Step::new(Item::Refers(kind, name), State::Referred, name.end))
 }
 
 // Reads on from a state up to the next token that is judged.
@@ -113,19 +99,11 @@ pub fn next_item(text: &[u8], state: State, pos: usize) -> Result<Step, GrammarF
     match state {
         State::Declared(Kind::Task) => {
             let (value, token) = numeral(text, at)?;
-            Ok(Step {
-                item: Item::Priority(value, token),
-                state: State::Prioritized,
-                pos: token.end,
-            })
+            Ok(Step::new(Item::Priority(value, token), State::Prioritized, token.end))
         }
         State::Prioritized => {
             let (value, token) = numeral(text, at)?;
-            Ok(Step {
-                item: Item::Activation(value, token),
-                state: State::Activated,
-                pos: token.end,
-            })
+            Ok(Step::new(Item::Activation(value, token), State::Activated, token.end))
         }
         State::Activated | State::Referred => attribute(text, at),
         State::Start | State::Declared(_) | State::Closed => object(text, at),

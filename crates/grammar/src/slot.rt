@@ -1,14 +1,13 @@
 // Slots: what may stand at one place of a text.
 ghost use Rattle.std.specs.Prelude.{◌≡◌};
-ghost use Rattle.grammar.specs.Slots.{admits, lexed, expected, followed};
+ghost use Rattle.grammar.specs.Slots.{admits, expected, followed};
 
-use crate::fault::{GrammarFault, misplaced};
-use crate::word::{Word, spelling, spells};
+use crate::fault::GrammarFault;
+use crate::word::{Word, spelling};
 use letters::lexer::next;
-use letters::slices::cut;
-use letters::token::{Mark, Token, What, same};
+use letters::token::{Mark, Token, What, bytes_of};
 
-#[derive(Clone, Copy)]
+#[derive(Clone, Copy, PartialEq, Debug)]
 pub enum Slot {
     Word(Word),
     Mark(Mark),
@@ -22,32 +21,24 @@ pub(crate) fn fits(text: &[u8], slot: Slot, token: Token) -> bool
     ensures { result ≡ admits text.now slot token }
 {
     match (slot, token.what) {
-        (Slot::Word(word), What::Name) => spells(text, token, spelling(word)),
-        (Slot::Mark(mark), What::Mark(found)) => same(mark, found),
+        (Slot::Word(word), What::Name) => bytes_of(text, token) == spelling(word),
+        (Slot::Mark(mark), What::Mark(found)) => mark == found,
         (Slot::AnyName, What::Name) => true,
-        (Slot::Version, What::Quoted) => spells(text, token, b"\"2.5\""),
+        (Slot::Version, What::Quoted) => bytes_of(text, token) == b"\"2.5\"".as_slice(),
         (Slot::End, What::End) => true,
         _ => false,
     }
-}
-
-// The next token.
-pub(crate) fn token(text: &[u8], pos: usize) -> Result<Token, GrammarFault>
-    ensures { result ≡ lexed text.now pos }
-{
-    let token = next(text, pos)?;
-    Ok(token)
 }
 
 // Reads a token that has to stand at the slot, and says where the text goes on.
 pub(crate) fn expect(text: &[u8], pos: usize, slot: Slot) -> Result<usize, GrammarFault>
     ensures { result ≡ expected text.now slot pos }
 {
-    let token = token(text, pos)?;
+    let token = next(text, pos)?;
     if fits(text, slot, token) {
         Ok(token.end)
     } else {
-        Err(misplaced(token.place))
+        Err(GrammarFault::misplaced(token.place))
     }
 }
 
@@ -56,10 +47,8 @@ pub(crate) fn follow(text: &[u8], pos: usize, slots: &[Slot]) -> Result<usize, G
     ensures { result ≡ followed text.now slots.now pos }
 {
     let mut at = pos;
-    let mut rest = slots;
-    while let Some((slot, after)) = cut(rest) {
-        at = expect(text, at, slot)?;
-        rest = after;
+    for slot in slots {
+        at = expect(text, at, *slot)?;
     }
     Ok(at)
 }

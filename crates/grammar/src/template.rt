@@ -67,6 +67,7 @@ const ACTIVATED: [Slot; 5] = [
     Slot::Mark(Mark::Semicolon),
 ];
 
+// The slots after a state.
 pub(crate) fn slots_after(state: State) -> &'static [Slot]
     ensures { result.now ≡ template state }
 {
@@ -77,7 +78,6 @@ pub(crate) fn slots_after(state: State) -> &'static [Slot]
         State::Declared(Kind::Task) => &TASK,
         State::Prioritized => &PRIORITIZED,
         State::Activated => &ACTIVATED,
-        State::Referred => &[Slot::Mark(Mark::Semicolon)],
-        State::Closed => &[Slot::Mark(Mark::Semicolon)],
+        State::Referred | State::Closed => &[Slot::Mark(Mark::Semicolon)],
     }
 }

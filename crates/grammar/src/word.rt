@@ -1,12 +1,8 @@
 // The keywords. A keyword is a name with that spelling at its place, and may name an object elsewhere.
 ghost use Rattle.std.specs.Prelude.{◌≡◌};
-ghost use Rattle.std.specs.Str.{bytes_eq};
-ghost use Rattle.letters.specs.Tokens.{bytes_of};
 ghost use Rattle.grammar.specs.Slots.{spelt};
 
-use letters::token::{Token, bytes_of};
-
-#[derive(Clone, Copy)]
+#[derive(Clone, Copy, PartialEq, Debug)]
 pub enum Word {
     OilVersion,
     Cpu,
@@ -46,11 +42,4 @@ pub(crate) fn spelling(word: Word) -> &'static [u8]
         Word::Autostart => b"AUTOSTART",
         Word::False => b"FALSE",
     }
-}
-
-// Does the token have these bytes?
-pub(crate) fn spells(text: &[u8], token: Token, bytes: &[u8]) -> bool
-    ensures { result ≡ bytes_eq (bytes_of text.now token) bytes.now }
-{
-    bytes_of(text, token) == bytes
 }

@@ -1,6 +1,7 @@
 -- How far a token goes, and what the bytes of a name are.
-use Rattle.std.proofs.Common.{◌≡◌, ℕ, zero, suc, ◌+◌, ◌-◌, ◌*◌, ◌<◌, ◌≤◌, Bool, true, false, eqb, leb, List, [], ◌∷◌, length, take, drop, Some, None, Ok, Err, Option, sym, refl, ap, ◌∙◌, subst, ⊎_elim, arith, length-drop, drop-drop}
+use Rattle.std.proofs.Common.{◌≡◌, ℕ, suc, ◌+◌, ◌-◌, ◌*◌, ◌<◌, ◌≤◌, Bool, true, false, eqb, leb, List, [], ◌∷◌, length, take, drop, Some, None, Ok, Err, Option, sym, refl, ap, ◌∙◌, subst, ⊎_elim, arith, length-drop, drop-drop}
 use Rattle.std.proofs.lemmas.Bool.{cases_Bool, cond-true, cond-false, cond_both, leb-true, true≢false, false≢true}
+use Rattle.std.proofs.lemmas.List.Folds.{length-prefix_len}
 use Rattle.std.proofs.lemmas.List.Sums.{prefix_len-le-length}
 use Rattle.std.specs.List.{prefix_len}
 use Rattle.letters.specs.declared.token.What.TheVariants as what
@@ -34,18 +35,13 @@ full_leading (x ∷ xs) =
     (λ y. let e : suc (prefix_len name_byte xs) ≡ 1 + prefix_len name_byte xs = omega arith in subst (λ n. Full (take n (x ∷ xs))) e (let f : Full (x ∷ take (prefix_len name_byte xs) xs) = ((λ e. true≢false (sym y ∙ ap name_byte e)), full_leading xs) in f))
     (λ _. tt)
 
-take_length : (n : ℕ) (xs : List ℕ) → length (take n xs) ≤ n
-take_length zero xs = omega arith
-take_length (suc n) [] = omega arith
-take_length (suc n) (x ∷ xs) = let h = take_length n xs in omega arith
-
 goes_name : (place b : ℕ) (bs : List ℕ) → name_start b ≡ true → Goes place (b ∷ bs) (name_at place (1 + prefix_len name_byte bs))
 goes_name place b bs y =
     cond_both (leb (1 + prefix_len name_byte bs) 32) (token what.Name place (1 + prefix_len name_byte bs)) (unlawful place) (Goes place (b ∷ bs))
     (λ s. let l = prefix_len-le-length name_byte bs in
     let small = leb-true (1 + prefix_len name_byte bs) 32 s in
     let e : place + (1 + prefix_len name_byte bs) - place ≡ suc (prefix_len name_byte bs) = omega arith in
-    let short = take_length (prefix_len name_byte bs) bs in
+    let short = length-prefix_len name_byte bs in
     (refl, omega arith, omega arith, (λ _. omega arith), (λ _. subst (λ n. Named (take n (b ∷ bs))) (sym e) (record { full = ((λ z. true≢false (sym y ∙ ap name_start z)), full_leading bs); short = omega arith; some = omega arith }))))
     (λ _. tt)
 

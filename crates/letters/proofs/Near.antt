@@ -1,7 +1,7 @@
 -- A token is what it is by the bytes up to the one after it.
 use Rattle.std.proofs.Common.{◌≡◌, ℕ, zero, suc, ◌+◌, ◌-◌, ◌*◌, ◌<◌, ◌≤◌, Bool, true, false, cond, ◌&&◌, eqb, leb, List, [], ◌∷◌, length, take, drop, Some, None, Option, sym, refl, ap, ◌∙◌, subst, ⊎_elim, arith}
 use Rattle.std.proofs.lemmas.List.{drop-take}
-use Rattle.std.proofs.lemmas.Bool.{cases_Bool, cond-true, cond-false, true≢false, false≢true, and_left, and_right, and_cases}
+use Rattle.std.proofs.lemmas.Bool.{cases_Bool, cond-true, cond-false, true≢false, false≢true, and_parts, and_left, and_right, and_cases}
 use Rattle.std.specs.List.{prefix_len}
 use Rattle.letters.specs.declared.token.What.TheVariants as what
 use Rattle.letters.specs.Bytes.{name_start, name_byte, is_digit, is_blank, in_string}
@@ -189,10 +189,6 @@ comment_some : (xs : List ℕ) → begins 47 xs ≡ true → 0 < blanks true xs
 comment_some [] h = absurd (false≢true h)
 comment_some (x ∷ xs) h = omega arith
 
-and_second : (a b : Bool) → (a && b) ≡ true → b ≡ true
-and_second true b h = h
-and_second false b h = absurd (false≢true h)
-
 blanks_go : (c : Bool) (x : ℕ) (xs : List ℕ) → ((n : Bool) (zs : List ℕ) → Near (blanks n xs + extent (drop (blanks n xs) xs)) xs zs → blanks n zs ≡ blanks n xs) → (ys : List ℕ) (o : Option Bool) → skip c x xs ≡ o → Near (counted o (λ n. blanks n xs) + extent (drop (counted o (λ n. blanks n xs)) (x ∷ xs))) (x ∷ xs) ys → blanks c ys ≡ counted o (λ n. blanks n xs)
 blanks_go c x xs ih [] None e h = refl
 blanks_go c x xs ih (y ∷ ys) None e h =
@@ -211,7 +207,7 @@ blanks_go c x xs ih (y ∷ ys) (Some n) e h =
     (λ cf t.
     let w : Some n ≡ Some true = sym e ∙ ap (λ b. skip b x xs) cf ∙ cond-true (eqb x 47 && begins 47 xs) _ _ t in
     let nt : n ≡ true = cc in
-    let some = comment_some xs (and_second (eqb x 47) (begins 47 xs) t) in
+    let some = comment_some xs (and_parts (eqb x 47) (begins 47 xs) t).1 in
     let same = ap (λ b. blanks b xs) nt in
     omega arith) in
     ap (λ z. blanks c (z ∷ ys)) (sym g.0) ∙ ap (λ r. counted r (λ m. blanks m ys)) (s ∙ e) ∙ ap (λ k. 1 + k) (ih n ys g.1)
@@ -237,7 +233,7 @@ cut_go c x xs ih (Some n) e =
     (λ cf t.
     let w : Some n ≡ Some true = sym e ∙ ap (λ b. skip b x xs) cf ∙ cond-true (eqb x 47 && begins 47 xs) _ _ t in
     let nt : n ≡ true = cc in
-    let some = comment_some xs (and_second (eqb x 47) (begins 47 xs) t) in
+    let some = comment_some xs (and_parts (eqb x 47) (begins 47 xs) t).1 in
     let same = ap (λ b. blanks b xs) nt in
     omega arith) in
     ap (λ j. blanks c (take j (x ∷ xs))) d ∙ ap (λ r. counted r (λ m. blanks m (take k xs))) (s ∙ e) ∙ ap (λ j. 1 + j) (ih n)
@@ -246,14 +242,10 @@ cut_blanks : (c : Bool) (xs : List ℕ) → blanks c (take (blanks c xs) xs) ≡
 cut_blanks c [] = refl
 cut_blanks c (x ∷ xs) = cut_go c x xs (λ n. cut_blanks n xs) (skip c x xs) refl
 
-take_none : (k : ℕ) (xs : List ℕ) → drop k (take k xs) ≡ []
-take_none zero xs = refl
-take_none (suc k) [] = refl
-take_none (suc k) (x ∷ xs) = take_none k xs
-
 pub lex_cut : (text : List ℕ) (pos : ℕ) → token_at (take (place_from text pos) text) pos ≡ token what.End (place_from text pos) 0
 lex_cut text pos =
     let k = blanks false (drop pos text) in
+    let none : k ≡ k + 0 = omega arith in
     ap (λ ys. head_token (pos + blanks false ys) (drop (blanks false ys) ys)) (drop-take pos k text)
     ∙ ap (λ n. head_token (pos + n) (drop n (take k (drop pos text)))) (cut_blanks false (drop pos text))
-    ∙ ap (head_token (pos + k)) (take_none k (drop pos text))
+    ∙ ap (head_token (pos + k)) (ap (λ n. drop k (take n (drop pos text))) none ∙ drop-take k 0 (drop pos text))

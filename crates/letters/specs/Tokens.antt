@@ -25,8 +25,12 @@ abbrev pub measured : List ℕ → Result (Unit {0}) LettersFault
 measured text = cond (nat_lt 32768 (length text)) (Err (fault cause.TooLong 32768)) (Ok tt)
 
 -- A token from place on, of n bytes.
+abbrev pub spanning : What → ℕ → ℕ → Token
+spanning w place n = record { what = w; place = place; end = place + n }
+
+-- The same, as what is read.
 abbrev pub token : What → ℕ → ℕ → Lexed
-token w place n = Ok (record { what = w; place = place; end = place + n })
+token w place n = Ok (spanning w place n)
 
 -- No lawful token begins at the place.
 abbrev pub unlawful : ℕ → Lexed
@@ -43,21 +47,10 @@ mark_of c =
 -- Both are the same mark.
 abbrev pub same_mark : Mark → Mark → Bool
 same_mark marks.Open marks.Open = true
-same_mark marks.Open marks.Close = false
-same_mark marks.Open marks.Equals = false
-same_mark marks.Open marks.Semicolon = false
-same_mark marks.Close marks.Open = false
 same_mark marks.Close marks.Close = true
-same_mark marks.Close marks.Equals = false
-same_mark marks.Close marks.Semicolon = false
-same_mark marks.Equals marks.Open = false
-same_mark marks.Equals marks.Close = false
 same_mark marks.Equals marks.Equals = true
-same_mark marks.Equals marks.Semicolon = false
-same_mark marks.Semicolon marks.Open = false
-same_mark marks.Semicolon marks.Close = false
-same_mark marks.Semicolon marks.Equals = false
 same_mark marks.Semicolon marks.Semicolon = true
+same_mark a b = false
 
 -- The number that at most nine digits write, after count digits of the value so far, and how many digits there are.
 abbrev pub digits : ℕ → ℕ → List ℕ → Option (ℕ × ℕ)
@@ -103,31 +96,19 @@ bytes_of text t = take (t.end - t.place) (drop t.place text)
 -- It is a name.
 abbrev pub is_name : What → Bool
 is_name what.Name = true
-is_name (what.Number n) = false
-is_name what.Quoted = false
-is_name (what.Mark c) = false
-is_name what.End = false
+is_name w = false
 
 -- It is a string.
 abbrev pub is_quoted : What → Bool
-is_quoted what.Name = false
-is_quoted (what.Number n) = false
 is_quoted what.Quoted = true
-is_quoted (what.Mark c) = false
-is_quoted what.End = false
+is_quoted w = false
 
 -- It is this mark.
 abbrev pub is_mark : Mark → What → Bool
-is_mark m what.Name = false
-is_mark m (what.Number n) = false
-is_mark m what.Quoted = false
 is_mark m (what.Mark c) = same_mark m c
-is_mark m what.End = false
+is_mark m w = false
 
 -- It is the end of the text.
 abbrev pub is_end : What → Bool
-is_end what.Name = false
-is_end (what.Number n) = false
-is_end what.Quoted = false
-is_end (what.Mark c) = false
 is_end what.End = true
+is_end w = false

@@ -3,14 +3,13 @@ ghost use Rattle.std.specs.Prelude.{◌≡◌, ◌<◌, ◌≤◌, true, false, 
 ghost use Rattle.letters.specs.Blanks.{blanks, begins as begins_with, skip};
 
 use crate::bytes::is_blank;
-use crate::slices::cut;
 
 // Does the text begin with this byte?
 pub(crate) fn begins(text: &[u8], byte: u8) -> bool
     ensures value { result ≡ begins_with byte text.now }
     ensures some { result ≡ true → 0 < length text.now }
 {
-    matches!(text, [b, ..] if *b == byte)
+    text.first() == Some(&byte)
 }
 
 // Whether the next byte is in a comment, where this one is a blank or of a comment; none where it is neither.
@@ -33,16 +32,14 @@ pub(crate) fn blanks_len(text: &[u8]) -> usize
     ensures count { result ≡ blanks false text.now }
     ensures bound { result ≤ length text.now }
 {
+    // A loop: whether a byte is skipped may depend on the one after it.
     let mut rest = text;
-    let mut count = 0;
     let mut comment = false;
-    while let Some((first, after)) = cut(rest) {
-        let Some(next) = skips(comment, first, after) else {
-            break;
-        };
+    while let [first, after @ ..] = rest
+        && let Some(next) = skips(comment, *first, after)
+    {
         comment = next;
-        count += 1;
         rest = after;
     }
-    count
+    text.len() - rest.len()
 }

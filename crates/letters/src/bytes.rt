@@ -1,9 +1,6 @@
 // The kinds of bytes.
 ghost use Rattle.std.specs.Prelude.{◌≡◌};
-ghost use Rattle.letters.specs.Bytes.{name_start, name_byte, is_blank, in_string};
-ghost use Rattle.letters.specs.Tokens.{mark_of as mark_at};
-
-use crate::token::Mark;
+ghost use Rattle.letters.specs.Bytes.{name_start, name_byte, is_blank as blank_byte, in_string as string_byte};
 
 // May a name begin with this byte?
 pub(crate) fn starts_name(b: u8) -> bool
@@ -21,27 +18,14 @@ pub(crate) fn goes_on_name(b: u8) -> bool
 
 // Space, tab, carriage return and line feed.
 pub(crate) fn is_blank(b: u8) -> bool
-    ensures { result ≡ is_blank b }
+    ensures { result ≡ blank_byte b }
 {
     matches!(b, b' ' | b'\t' | b'\r' | b'\n')
 }
 
 // May the byte stand between the quotes of a string?
 pub(crate) fn in_string(b: u8) -> bool
-    ensures { result ≡ in_string b }
+    ensures { result ≡ string_byte b }
 {
-    b != b'"' && b != b'\n'
-}
-
-// The mark that a character is.
-pub(crate) fn mark_of(c: char) -> Option<Mark>
-    ensures { result ≡ mark_at c }
-{
-    match c {
-        '{' => Some(Mark::Open),
-        '}' => Some(Mark::Close),
-        '=' => Some(Mark::Equals),
-        ';' => Some(Mark::Semicolon),
-        _ => None,
-    }
+    !matches!(b, b'"' | b'\n')
 }

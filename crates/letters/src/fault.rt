@@ -1,6 +1,11 @@
 // Why a text cannot be taken apart.
-ghost use Rattle.std.specs.Prelude.{◌≡◌};
+ghost use Rattle.std.specs.Prelude.{◌≡◌, Some};
+ghost use Rattle.letters.specs.declared.fault.LettersCause.TheVariants as causes;
+ghost use Rattle.letters.specs.Tokens.{fault};
 ghost use Rattle.letters.specs.Faults.{explanation};
+
+use std::error::Error;
+use std::fmt::{self, Display, Formatter, Write};
 
 #[derive(Clone, Copy, PartialEq, Debug)]
 pub enum LettersCause {
@@ -22,9 +27,32 @@ impl LettersCause {
     }
 }
 
-// A cause, and the byte of the text where it was found.
+impl Display for LettersCause {
+    ghost output = { λ cause. Some (explanation cause) };
+
+    fn fmt<W: Write>(&self, f: &mut Formatter<W>) -> fmt::Result {
+        f.write_str(self.explain())
+    }
+}
+
+impl Error for LettersCause {}
+
+// A cause, and the byte of the text where it was found. Each layer has a struct of its own: `From` between two instances
+// of one generic struct would belong to neither of the crates that would write it.
 #[derive(Clone, Copy, PartialEq, Debug)]
 pub struct LettersFault {
     pub cause: LettersCause,
     pub place: usize,
+}
+
+impl LettersFault {
+    // No lawful token begins at the place.
+    pub(crate) fn no_token(place: usize) -> LettersFault
+        ensures { result ≡ fault causes.NoToken place }
+    {
+        LettersFault {
+            cause: LettersCause::NoToken,
+            place,
+        }
+    }
 }

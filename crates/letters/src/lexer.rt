@@ -3,67 +3,46 @@ ghost use Rattle.std.specs.Prelude.{◌≡◌, ◌+◌, ◌^◌, ◌<◌, ◌≤
 ghost use Rattle.letters.specs.Tokens.{measured, head_token, token_at};
 
 use crate::blanks::blanks_len;
-use crate::bytes::{mark_of, starts_name};
+use crate::bytes::starts_name;
 use crate::fault::{LettersCause, LettersFault};
-use crate::names::{name, name_len};
+use crate::limits::LONGEST_TEXT;
+use crate::names::name;
 use crate::numbers::number;
-use crate::slices::{cut, rest_from};
+use crate::slices::rest_from;
 use crate::strings::string;
-use crate::token::{Token, What};
+use crate::token::{Mark, Token, What};
 
 // Is the text short enough to be read?
 pub fn measure(text: &[u8]) -> Result<(), LettersFault>
     ensures { result ≡ measured text.now }
 {
-    if text.len() > 32768 {
+    if text.len() > LONGEST_TEXT {
         return Err(LettersFault {
             cause: LettersCause::TooLong,
-            place: 32768,
+            place: LONGEST_TEXT,
         });
     }
     Ok(())
 }
 
 // The token at the head of a text that stands at `place`: its first byte decides its kind.
-fn token_at(text: &[u8], place: usize) -> Result<Token, LettersFault>
+fn head(text: &[u8], place: usize) -> Result<Token, LettersFault>
     requires { place + length text.now < 2 ^ 64 }
     ensures { result ≡ head_token place text.now }
 {
-    let fault = LettersFault {
-        cause: LettersCause::NoToken,
-        place,
-    };
-    let Some((first, after)) = cut(text) else {
-        return Ok(Token {
-            what: What::End,
-            place,
-            end: place,
-        });
-    };
-    if starts_name(first) {
-        return name(place, 1 + name_len(after));
+    match text {
+        [] => Ok(Token::new(What::End, place, 0)),
+        [first, after @ ..] if starts_name(*first) => name(place, after),
+        [first, after @ ..] if first.is_ascii_digit() => {
+            let (value, count) = number(*first, after).ok_or(LettersFault::no_token(place))?;
+            Ok(Token::new(What::Number(value), place, count))
+        }
+        [b'"', after @ ..] => string(place, after),
+        [first, ..] => {
+            let mark = Mark::of(char::from(*first)).ok_or(LettersFault::no_token(place))?;
+            Ok(Token::new(What::Mark(mark), place, 1))
+        }
     }
-    if first.is_ascii_digit() {
-        let Some((value, count)) = number(first, after) else {
-            return Err(fault);
-        };
-        return Ok(Token {
-            what: What::Number(value),
-            place,
-            end: place + count,
-        });
-    }
-    if first == b'"' {
-        return string(place, after);
-    }
-    let Some(mark) = mark_of(char::from(first)) else {
-        return Err(fault);
-    };
-    Ok(Token {
-        what: What::Mark(mark),
-        place,
-        end: place + 1,
-    })
 }
 
 // The next token of the text from `pos` on.
@@ -72,5 +51,5 @@ pub fn next(text: &[u8], pos: usize) -> Result<Token, LettersFault>
 {
     let rest = rest_from(text, pos);
     let skipped = blanks_len(rest);
-    token_at(rest_from(rest, skipped), pos + skipped)
+    head(rest_from(rest, skipped), pos + skipped)
 }

@@ -6,6 +6,7 @@ mod blanks;
 mod bytes;
 pub mod fault;
 pub mod lexer;
+mod limits;
 mod names;
 mod numbers;
 pub mod slices;

@@ -1,46 +1,30 @@
 // Names.
-ghost use Rattle.std.specs.Prelude.{◌≡◌, ◌+◌, ◌^◌, ◌<◌, ◌≤◌, length, MatchResult};
+ghost use Rattle.std.specs.Prelude.{◌≡◌, ◌+◌, ◌^◌, ◌<◌, ◌≤◌, length};
 ghost use Rattle.std.specs.List.{prefix_len};
 ghost use Rattle.letters.specs.Bytes.{name_byte};
 ghost use Rattle.letters.specs.Tokens.{name_at};
 
 use crate::bytes::goes_on_name;
-use crate::fault::{LettersCause, LettersFault};
-use crate::slices::cut;
+use crate::fault::LettersFault;
+use crate::limits::LONGEST_WORD;
 use crate::token::{Token, What};
 
 // How many bytes the text begins with that go on a name.
-pub(crate) fn name_len(text: &[u8]) -> usize
+fn name_len(text: &[u8]) -> usize
     ensures count { result ≡ prefix_len name_byte text.now }
     ensures bound { result ≤ length text.now }
 {
-    let mut rest = text;
-    let mut count = 0;
-    while let Some((first, after)) = cut(rest) {
-        if !goes_on_name(first) {
-            break;
-        }
-        count += 1;
-        rest = after;
-    }
-    count
+    text.iter().take_while(|b| goes_on_name(**b)).count()
 }
 
-// A name of `count` bytes.
-pub(crate) fn name(place: usize, count: usize) -> Result<Token, LettersFault>
-    requires { place + count < 2 ^ 64 }
-    ensures { result ≡ name_at place count }
+// A name whose first byte stands at `place`, before `text`.
+pub(crate) fn name(place: usize, text: &[u8]) -> Result<Token, LettersFault>
+    requires { place + 1 + length text.now < 2 ^ 64 }
+    ensures { result ≡ name_at place (1 + prefix_len name_byte text.now) }
 {
-    if count <= 32 {
-        Ok(Token {
-            what: What::Name,
-            place,
-            end: place + count,
-        })
-    } else {
-        Err(LettersFault {
-            cause: LettersCause::NoToken,
-            place,
-        })
+    let count = 1 + name_len(text);
+    if count > LONGEST_WORD {
+        return Err(LettersFault::no_token(place));
     }
+    Ok(Token::new(What::Name, place, count))
 }

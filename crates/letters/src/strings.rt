@@ -6,25 +6,18 @@ ghost use Rattle.letters.specs.Tokens.{string_at};
 
 use crate::blanks::begins;
 use crate::bytes::in_string;
-use crate::fault::{LettersCause, LettersFault};
-use crate::slices::{cut, rest_from};
+use crate::fault::LettersFault;
+use crate::limits::LONGEST_WORD;
+use crate::slices::rest_from;
 use crate::token::{Token, What};
 
-// How many bytes the text begins with that a string may hold.
+// How many bytes the text begins with that a string may hold. One function for this and `name_len`, with the test as a
+// closure, was tried: its clause, for each rule that the closure's answers keep, was not proved.
 fn string_len(text: &[u8]) -> usize
     ensures count { result ≡ prefix_len inside text.now }
     ensures bound { result ≤ length text.now }
 {
-    let mut rest = text;
-    let mut count = 0;
-    while let Some((first, after)) = cut(rest) {
-        if !in_string(first) {
-            break;
-        }
-        count += 1;
-        rest = after;
-    }
-    count
+    text.iter().take_while(|b| in_string(**b)).count()
 }
 
 // A string whose opening quote stands at `place`, before `text`.
@@ -32,21 +25,10 @@ pub(crate) fn string(place: usize, text: &[u8]) -> Result<Token, LettersFault>
     requires { place + 1 + length text.now < 2 ^ 64 }
     ensures { result ≡ string_at place (prefix_len inside text.now) (drop (prefix_len inside text.now) text.now) }
 {
-    let fault = LettersFault {
-        cause: LettersCause::NoToken,
-        place,
-    };
     let count = string_len(text);
-    if count > 32 {
-        return Err(fault);
-    }
-    if begins(rest_from(text, count), b'"') {
-        Ok(Token {
-            what: What::Quoted,
-            place,
-            end: place + (count + 2),
-        })
+    if count <= LONGEST_WORD && begins(rest_from(text, count), b'"') {
+        Ok(Token::new(What::Quoted, place, count + 2))
     } else {
-        Err(fault)
+        Err(LettersFault::no_token(place))
     }
 }

@@ -1,6 +1,6 @@
 // Tokens: plain data, which hold no part of the text.
-ghost use Rattle.std.specs.Prelude.{◌≡◌};
-ghost use Rattle.letters.specs.Tokens.{bytes_of, same_mark};
+ghost use Rattle.std.specs.Prelude.{◌≡◌, ◌+◌, ◌^◌, ◌<◌};
+ghost use Rattle.letters.specs.Tokens.{bytes_of as token_bytes, mark_of, spanning};
 
 use crate::slices::rest_from;
 
@@ -11,6 +11,21 @@ pub enum Mark {
     Close,
     Equals,
     Semicolon,
+}
+
+impl Mark {
+    // The mark that a character is. No TryFrom: its error could say no more than none.
+    pub(crate) fn of(c: char) -> Option<Mark>
+        ensures { result ≡ mark_of c }
+    {
+        match c {
+            '{' => Some(Mark::Open),
+            '}' => Some(Mark::Close),
+            '=' => Some(Mark::Equals),
+            ';' => Some(Mark::Semicolon),
+            _ => None,
+        }
+    }
 }
 
 #[derive(Clone, Copy, PartialEq, Debug)]
@@ -31,18 +46,25 @@ pub struct Token {
     pub end: usize,
 }
 
-// The bytes of a token.
-pub fn bytes_of(text: &[u8], token: Token) -> &[u8]
-    ensures { result.now ≡ bytes_of text.now token }
-{
-    let rest = rest_from(text, token.place);
-    let count = rest.len().min(token.end.saturating_sub(token.place));
-    &rest[0..count]
+impl Token {
+    // A token of `count` bytes from `place` on.
+    pub(crate) fn new(what: What, place: usize, count: usize) -> Token
+        requires { place + count < 2 ^ 64 }
+        ensures { result ≡ spanning what place count }
+    {
+        Token {
+            what,
+            place,
+            end: place + count,
+        }
+    }
 }
 
-// Are both the same mark?
-pub fn same(a: Mark, b: Mark) -> bool
-    ensures { result ≡ same_mark a b }
+// The bytes of a token.
+pub fn bytes_of(text: &[u8], token: Token) -> &[u8]
+    ensures { result.now ≡ token_bytes text.now token }
 {
-    a == b
+    let rest = rest_from(text, token.place);
+    let count = token.end.saturating_sub(token.place);
+    rest.get(..count).unwrap_or(rest)
 }

@@ -12,4 +12,3 @@ pub mod Understands
 pub mod First
 pub mod Bounds
 pub mod Laws
-pub mod Walks

@@ -13,14 +13,12 @@ use Rattle.grammar.specs.declared.item.Item.{Item}
 use Rattle.grammar.specs.declared.item.Item.TheVariants as item
 use Rattle.grammar.specs.declared.item.Step.{Step}
 use Rattle.grammar.proofs.Sits.{ItemSits}
-use Rattle.oil.specs.declared.table.Holds.{Holds}
-use Rattle.oil.specs.declared.table.Holds.TheVariants as holds
 use Rattle.oil.specs.declared.table.NameRecord.{NameRecord}
 use Rattle.oil.specs.declared.table.Known.{Known}
 use Rattle.oil.specs.declared.draft.Draft.{Draft}
 use Rattle.oil.specs.declared.fault.PlanCause.TheVariants as cause
 use Rattle.oil.specs.Faults.{refusal}
-use Rattle.oil.specs.Table.{keyed, no_key, find, blank, as_holds, meant, known_by, looked}
+use Rattle.oil.specs.Table.{keyed, no_key, find, blank, meant, known_by, looked}
 use Rattle.oil.specs.Draft.{Within, Drafted, Bounded, SoundDraft, next_number, used, grown, with_resources, with_events, with_tasks, with_users, with_registered, prioritized, added}
 use Rattle.oil.specs.Judging.{unless_known, referred_to, referred_by, judged, proceed}
 use Rattle.oil.specs.Records.{AllOk, RecordOk, NumberOk, Ready, entered, noted, GoesOn, ItemIn}
@@ -34,11 +32,11 @@ KindOk d kind.Task n = Unit {0}
 abbrev KnownOk : Draft → Option Known → Type 0
 KnownOk d o = IfSome o (λ x. KindOk d x.kind x.number)
 
-meant_ok : (d : Draft) (h : Holds) (n : ℕ) → NumberOk d h n → KnownOk d (meant h n)
-meant_ok d holds.Nothing n g = tt
-meant_ok d holds.Resource n g = g
-meant_ok d holds.Event n g = g
-meant_ok d holds.Task n g = tt
+meant_ok : (d : Draft) (h : Option Kind) (n : ℕ) → NumberOk d h n → KnownOk d (meant h n)
+meant_ok d None n g = tt
+meant_ok d (Some kind.Resource) n g = g
+meant_ok d (Some kind.Event) n g = g
+meant_ok d (Some kind.Task) n g = tt
 
 find_ok : (d : Draft) (names : List NameRecord) (key : List ℕ) → AllOk d names → KnownOk d (known_by (find names key))
 find_ok d [] key h = tt
@@ -55,11 +53,11 @@ resource_low d names n x h e is = subst (λ k. KindOk d k x.number) is (found_ok
 pub event_low : (d : Draft) (names : List NameRecord) (n : List ℕ) (x : Known) → AllOk d names → Some x ≡ looked names n → x.kind ≡ kind.Event → x.number < d.events
 event_low d names n x h e is = subst (λ k. KindOk d k x.number) is (found_ok d names n x h e)
 
-number_more : (d e : Draft) (k : Holds) (n : ℕ) → d.resources ≤ e.resources → d.events ≤ e.events → NumberOk d k n → NumberOk e k n
-number_more d e holds.Nothing n r v g = tt
-number_more d e holds.Resource n r v g = omega arith
-number_more d e holds.Event n r v g = omega arith
-number_more d e holds.Task n r v g = tt
+number_more : (d e : Draft) (k : Option Kind) (n : ℕ) → d.resources ≤ e.resources → d.events ≤ e.events → NumberOk d k n → NumberOk e k n
+number_more d e None n r v g = tt
+number_more d e (Some kind.Resource) n r v g = omega arith
+number_more d e (Some kind.Event) n r v g = omega arith
+number_more d e (Some kind.Task) n r v g = tt
 
 pub allok_more : (d e : Draft) (names : List NameRecord) → d.resources ≤ e.resources → d.events ≤ e.events → AllOk d names → AllOk e names
 allok_more d e [] r v h = tt
@@ -113,27 +111,27 @@ more d e names x b r v g s h = record {
 abbrev Kept : Draft → List NameRecord → NameRecord → Drafted → Type 0
 Kept d names x r = IfOk r (λ e. Ready e (entered names d x r))
 
-grown_ready : (d : Draft) (names : List NameRecord) (k : Kind) (name : List ℕ) (place : ℕ) → Ready d names → Kept d names (record { name = name; holds = as_holds k; number = next_number d k }) (grown d k place)
+grown_ready : (d : Draft) (names : List NameRecord) (k : Kind) (name : List ℕ) (place : ℕ) → Ready d names → Kept d names (record { name = name; holds = Some k; number = next_number d k }) (grown d k place)
 grown_ready d names kind.Resource name place h =
     cond_both (eqb d.resources 32) (Err (refusal cause.TooMany place)) (Ok (with_resources d (d.resources + 1)))
-    (Kept d names (record { name = name; holds = holds.Resource; number = d.resources })) (λ _. tt)
+    (Kept d names (record { name = name; holds = Some kind.Resource; number = d.resources })) (λ _. tt)
     (λ e. let ne = eqb-false d.resources 32 e in
     let b = h.bounded in
     more d (with_resources d (d.resources + 1)) names _ (record { few_tasks = b.few_tasks; few_resources = omega arith; few_events = b.few_events }) (omega arith) (le_refl _) (omega arith) (let s = h.vectors in record { users_in = s.users_in; registered_in = s.registered_in; users_end = λ i l. s.users_end i (omega arith); registered_end = s.registered_end; current_in = s.current_in }) h)
 grown_ready d names kind.Event name place h =
     cond_both (eqb d.events 32) (Err (refusal cause.TooMany place)) (Ok (with_events d (d.events + 1)))
-    (Kept d names (record { name = name; holds = holds.Event; number = d.events })) (λ _. tt)
+    (Kept d names (record { name = name; holds = Some kind.Event; number = d.events })) (λ _. tt)
     (λ e. let ne = eqb-false d.events 32 e in
     let b = h.bounded in
     more d (with_events d (d.events + 1)) names _ (record { few_tasks = b.few_tasks; few_resources = b.few_resources; few_events = omega arith }) (le_refl _) (omega arith) (omega arith) (let s = h.vectors in record { users_in = s.users_in; registered_in = s.registered_in; users_end = s.users_end; registered_end = λ i l. s.registered_end i (omega arith); current_in = s.current_in }) h)
 grown_ready d names kind.Task name place h =
     cond_both (eqb d.tasks 64) (Err (refusal cause.TooMany place)) (Ok (with_tasks d (d.tasks + 1)))
-    (Kept d names (record { name = name; holds = holds.Task; number = 0 })) (λ _. tt)
+    (Kept d names (record { name = name; holds = Some kind.Task; number = 0 })) (λ _. tt)
     (λ e. let ne = eqb-false d.tasks 64 e in
     let b = h.bounded in
     more d (with_tasks d (d.tasks + 1)) names _ (record { few_tasks = omega arith; few_resources = b.few_resources; few_events = b.few_events }) (le_refl _) (le_refl _) tt (let s = h.vectors in record { users_in = s.users_in; registered_in = s.registered_in; users_end = s.users_end; registered_end = s.registered_end; current_in = s.current_in }) h)
 
-declared_ready : (d : Draft) (names : List NameRecord) (k : Kind) (name : List ℕ) (place : ℕ) (found : Option Known) → Ready d names → Kept d names (record { name = name; holds = as_holds k; number = next_number d k }) (unless_known found place (grown d k place))
+declared_ready : (d : Draft) (names : List NameRecord) (k : Kind) (name : List ℕ) (place : ℕ) (found : Option Known) → Ready d names → Kept d names (record { name = name; holds = Some k; number = next_number d k }) (unless_known found place (grown d k place))
 declared_ready d names k name place None h = grown_ready d names k name place h
 declared_ready d names k name place (Some r) h = tt
 

@@ -18,7 +18,7 @@ use Rattle.grammar.proofs.Sits.{ItemSits, item_sits}
 use Rattle.oil.specs.declared.table.NameRecord.{NameRecord}
 use Rattle.oil.specs.declared.table.Known.{Known}
 use Rattle.oil.specs.declared.draft.Draft.{Draft}
-use Rattle.oil.specs.Table.{blank, find, as_holds, meant, known_by, looked, no_key}
+use Rattle.oil.specs.Table.{blank, find, meant, known_by, looked, no_key}
 use Rattle.oil.specs.Draft.{Drafted, Bounded, used, next_number, grown, prioritized, activated}
 use Rattle.oil.specs.Judging.{unless_known, referred_to, referred_by, judged, lift_plan, proceed, advanced}
 use Rattle.oil.specs.Reading.{Entry, look_up, learnt, names_after}
@@ -51,11 +51,6 @@ known_cond : (b : Bool) (r : NameRecord) (o : Option NameRecord) → known_by (c
 known_cond true r o = refl
 known_cond false r o = refl
 
-meant_kind : (k : Kind) (i : ℕ) → meant (as_holds k) i ≡ Some (record { kind = k; number = i })
-meant_kind kind.Resource i = refl
-meant_kind kind.Event i = refl
-meant_kind kind.Task i = refl
-
 -- one name more
 tied_enter : (names : List NameRecord) (es : List Entry) (d : Draft) (k : Kind) (n : List ℕ) → Tied names es (used d) → Named n → used d < length names → looked names n ≡ None → Tied (set names (used d) (new_record d k n)) (record { name = n; kind = k; number = next_number d k } ∷ es) (used d + 1)
 tied_enter names es d k n t nm low none =
@@ -65,7 +60,7 @@ tied_enter names es d k n t nm low none =
     ∙ ap (λ b. cond b (Some r) (find names (key_for m))) (key_tests n m nm mm) in
     let x : Option Known = Some (record { kind = k; number = next_number d k }) in
     let is : (m : List ℕ) → Named m → looked (set names (used d) r) m ≡ cond (bytes_eq n m) x (looked names m) = λ m mm.
-    ap known_by (found m mm) ∙ known_cond (bytes_eq n m) r (find names (key_for m)) ∙ ap (λ y. cond (bytes_eq n m) y (looked names m)) (meant_kind k (next_number d k)) in
+    ap known_by (found m mm) ∙ known_cond (bytes_eq n m) r (find names (key_for m)) in
     record {
       same = λ m mm. is m mm ∙ ap (cond (bytes_eq n m) x) (t.same m mm);
       filled = λ m mm z. ⊎_elim

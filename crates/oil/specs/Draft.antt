@@ -38,15 +38,7 @@ abbrev pub prioritized : Draft → ℕ → ℕ → Drafted
 prioritized d value place =
     cond (nat_lt 63 value) (Err (refusal cause.WrongNumber place))
     (cond (in_vector d.declared value) (Err (refusal cause.WrongNumber place))
-    (Ok (record {
-      declared = bit_or d.declared (2 ^ value);
-      tasks = d.tasks;
-      resources = d.resources;
-      events = d.events;
-      users = d.users;
-      registered = d.registered;
-      current = 2 ^ value;
-    })))
+    (Ok (record d { declared = bit_or d.declared (2 ^ value); current = 2 ^ value })))
 
 -- A task is activated once.
 abbrev pub activated : Draft → ℕ → ℕ → Drafted
@@ -68,63 +60,23 @@ pub record SoundDraft (d : Draft) : Type 0 where
 
 -- The draft with this many resources.
 abbrev pub with_resources : Draft → ℕ → Draft
-with_resources d n = record {
-  declared = d.declared;
-  tasks = d.tasks;
-  resources = n;
-  events = d.events;
-  users = d.users;
-  registered = d.registered;
-  current = d.current;
-}
+with_resources d n = record d { resources = n }
 
 -- The draft with this many events.
 abbrev pub with_events : Draft → ℕ → Draft
-with_events d n = record {
-  declared = d.declared;
-  tasks = d.tasks;
-  resources = d.resources;
-  events = n;
-  users = d.users;
-  registered = d.registered;
-  current = d.current;
-}
+with_events d n = record d { events = n }
 
 -- The draft with this many tasks.
 abbrev pub with_tasks : Draft → ℕ → Draft
-with_tasks d n = record {
-  declared = d.declared;
-  tasks = n;
-  resources = d.resources;
-  events = d.events;
-  users = d.users;
-  registered = d.registered;
-  current = d.current;
-}
+with_tasks d n = record d { tasks = n }
 
 -- The draft with these users.
 abbrev pub with_users : Draft → List ℕ → Draft
-with_users d v = record {
-  declared = d.declared;
-  tasks = d.tasks;
-  resources = d.resources;
-  events = d.events;
-  users = v;
-  registered = d.registered;
-  current = d.current;
-}
+with_users d v = record d { users = v }
 
 -- The draft with these registered tasks.
 abbrev pub with_registered : Draft → List ℕ → Draft
-with_registered d v = record {
-  declared = d.declared;
-  tasks = d.tasks;
-  resources = d.resources;
-  events = d.events;
-  users = d.users;
-  registered = v;
-  current = d.current;
-}
+with_registered d v = record d { registered = v }
 
 -- The draft with one object more, of at most 32 resources, 32 events and 64 tasks.
 abbrev pub grown : Draft → Kind → ℕ → Drafted

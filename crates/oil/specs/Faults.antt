@@ -26,12 +26,7 @@ number_of cause.SmallTable = 9
 abbrev pub layer_of : PlanCause → Layer
 layer_of (cause.Grammar (grammar.Letters c)) = layer.Letters
 layer_of (cause.Grammar grammar.Misplaced) = layer.Grammar
-layer_of cause.NotKnown = layer.Plan
-layer_of cause.NameTaken = layer.Plan
-layer_of cause.WrongNumber = layer.Plan
-layer_of cause.TooMany = layer.Plan
-layer_of cause.NoTask = layer.Plan
-layer_of cause.SmallTable = layer.Plan
+layer_of c = layer.Plan
 
 -- What was wrong, in a few words.
 abbrev pub explanation : PlanCause → List ℕ

@@ -31,12 +31,8 @@ introduced look d k name place = unless_known (look name) place (grown d k place
 -- A reference to an object of the kind asked, where the name stands for one of the kind found.
 abbrev pub referred_to : Draft → Kind → Kind → ℕ → ℕ → Drafted
 referred_to d kind.Resource kind.Resource n place = Ok (with_users d (added d.users n d.current))
-referred_to d kind.Resource kind.Event n place = Err (refusal cause.NotKnown place)
-referred_to d kind.Resource kind.Task n place = Err (refusal cause.NotKnown place)
-referred_to d kind.Event kind.Resource n place = Err (refusal cause.NotKnown place)
 referred_to d kind.Event kind.Event n place = Ok (with_registered d (added d.registered n d.current))
-referred_to d kind.Event kind.Task n place = Err (refusal cause.NotKnown place)
-referred_to d kind.Task found n place = Err (refusal cause.NotKnown place)
+referred_to d k found n place = Err (refusal cause.NotKnown place)
 
 -- A reference by what its name stands for.
 abbrev pub referred_by : Draft → Kind → Option Known → ℕ → Drafted
@@ -63,12 +59,8 @@ lift_plan (Err f) = Err (raised_plan f)
 
 -- A text that is read to its end, or how to go on.
 abbrev pub proceed : Item → Draft → Step → Progress
-proceed (item.Declares k t) d s = progress.More d s.state s.pos
-proceed (item.Priority n t) d s = progress.More d s.state s.pos
-proceed (item.Activation n t) d s = progress.More d s.state s.pos
-proceed (item.Refers k t) d s = progress.More d s.state s.pos
-proceed item.Closes d s = progress.More d s.state s.pos
 proceed item.End d s = progress.Done d
+proceed i d s = progress.More d s.state s.pos
 
 -- One item read and judged.
 abbrev pub advanced : List ℕ → (List ℕ → Option Known) → Draft → State → ℕ → Result Progress PlanFault

@@ -35,11 +35,7 @@ learnt es d k n (Err f) = es
 -- The names after an item.
 abbrev pub names_after : List ℕ → List Entry → Draft → Item → List Entry
 names_after text es d (item.Declares k t) = learnt es d k (bytes_of text t) (introduced (look_up es) d k (bytes_of text t) t.place)
-names_after text es d (item.Priority n t) = es
-names_after text es d (item.Activation n t) = es
-names_after text es d (item.Refers k t) = es
-names_after text es d item.Closes = es
-names_after text es d item.End = es
+names_after text es d i = es
 
 -- The names after a step.
 abbrev pub names_at : List ℕ → List Entry → Draft → Result Step GrammarFault → List Entry

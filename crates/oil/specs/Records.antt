@@ -1,27 +1,26 @@
 -- What the items of a text do to the table of names, record by record.
-use Rattle.std.specs.Prelude.{ℕ, zero, suc, ◌<◌, ◌≤◌, List, [], ◌∷◌, length, Ok, Err, Result, slice_set}
+use Rattle.std.specs.Prelude.{ℕ, zero, suc, ◌<◌, ◌≤◌, List, [], ◌∷◌, length, Some, None, Ok, Err, Option, Result, slice_set}
 use Rattle.letters.specs.Tokens.{bytes_of}
 use Rattle.grammar.specs.declared.fault.GrammarFault.{GrammarFault}
 use Rattle.grammar.specs.declared.item.Kind.{Kind}
+use Rattle.grammar.specs.declared.item.Kind.TheVariants as kind
 use Rattle.grammar.specs.declared.item.State.{State}
 use Rattle.grammar.specs.declared.item.Item.{Item}
 use Rattle.grammar.specs.declared.item.Item.TheVariants as item
 use Rattle.grammar.specs.declared.item.Step.{Step}
 use Rattle.grammar.specs.Items.{item_at, begun}
-use Rattle.oil.specs.declared.table.Holds.{Holds}
-use Rattle.oil.specs.declared.table.Holds.TheVariants as holds
 use Rattle.oil.specs.declared.table.NameRecord.{NameRecord}
 use Rattle.oil.specs.declared.fault.PlanFault.{PlanFault}
 use Rattle.oil.specs.declared.draft.Draft.{Draft}
 use Rattle.oil.specs.declared.reader.Progress.{Progress}
 use Rattle.oil.specs.declared.reader.Progress.TheVariants as progress
-use Rattle.oil.specs.Table.{keyed, no_key, looked, as_holds}
+use Rattle.oil.specs.Table.{keyed, no_key, looked}
 use Rattle.oil.specs.Draft.{Drafted, empty_draft, Bounded, SoundDraft, next_number, used}
 use Rattle.oil.specs.Judging.{introduced, advanced, resume}
 
 -- The record of a new object.
 abbrev pub new_record : Draft → Kind → List ℕ → NameRecord
-new_record d k name = record { name = keyed 0 name no_key; holds = as_holds k; number = next_number d k }
+new_record d k name = record { name = keyed 0 name no_key; holds = Some k; number = next_number d k }
 
 -- The table after a declaration: a refused one leaves it.
 abbrev pub entered : List NameRecord → Draft → NameRecord → Drafted → List NameRecord
@@ -31,11 +30,7 @@ entered names d r (Err fault) = names
 -- The table after an item.
 abbrev pub noted : List ℕ → List NameRecord → Draft → Item → List NameRecord
 noted text names d (item.Declares k t) = entered names d (new_record d k (bytes_of text t)) (introduced (looked names) d k (bytes_of text t) t.place)
-noted text names d (item.Priority n t) = names
-noted text names d (item.Activation n t) = names
-noted text names d (item.Refers k t) = names
-noted text names d item.Closes = names
-noted text names d item.End = names
+noted text names d i = names
 
 -- The table after a step.
 abbrev pub noted_at : List ℕ → List NameRecord → Draft → Result Step GrammarFault → List NameRecord
@@ -63,11 +58,11 @@ abbrev pub left_after : List ℕ → List NameRecord → List NameRecord
 left_after text names = left_from text names (begun text)
 
 -- The number of a resource or an event is one that is declared.
-abbrev pub NumberOk : Draft → Holds → ℕ → Type 0
-NumberOk d holds.Nothing n = Unit {0}
-NumberOk d holds.Resource n = n < d.resources
-NumberOk d holds.Event n = n < d.events
-NumberOk d holds.Task n = Unit {0}
+abbrev pub NumberOk : Draft → Option Kind → ℕ → Type 0
+NumberOk d None n = Unit {0}
+NumberOk d (Some kind.Resource) n = n < d.resources
+NumberOk d (Some kind.Event) n = n < d.events
+NumberOk d (Some kind.Task) n = Unit {0}
 
 -- The number of the record is one that is declared.
 abbrev pub RecordOk : Draft → NameRecord → Type 0
@@ -81,11 +76,8 @@ AllOk d (r ∷ rs) = RecordOk d r × AllOk d rs
 -- The name of an item has at most 32 bytes.
 abbrev pub ItemIn : List ℕ → Item → Type 0
 ItemIn text (item.Declares k t) = length (bytes_of text t) ≤ 32
-ItemIn text (item.Priority n t) = Unit {0}
-ItemIn text (item.Activation n t) = Unit {0}
 ItemIn text (item.Refers k t) = length (bytes_of text t) ≤ 32
-ItemIn text item.Closes = Unit {0}
-ItemIn text item.End = Unit {0}
+ItemIn text i = Unit {0}
 
 -- Draft and table are as the next item needs them.
 pub record Ready (d : Draft) (names : List NameRecord) : Type 0 where

@@ -2,9 +2,6 @@
 use Rattle.std.specs.Prelude.{ℕ, ◌+◌, cond, List, [], ◌∷◌, replicate, Some, None, Option, slice_set}
 use Rattle.std.specs.Str.{bytes_eq}
 use Rattle.grammar.specs.declared.item.Kind.{Kind}
-use Rattle.grammar.specs.declared.item.Kind.TheVariants as kind
-use Rattle.oil.specs.declared.table.Holds.{Holds}
-use Rattle.oil.specs.declared.table.Holds.TheVariants as holds
 use Rattle.oil.specs.declared.table.Known.{Known}
 use Rattle.oil.specs.declared.table.NameRecord.{NameRecord}
 
@@ -19,25 +16,17 @@ keyed i (b ∷ bs) key = keyed (i + 1) bs (slice_set key i b)
 
 -- An empty record.
 abbrev pub blank : NameRecord
-blank = record { name = no_key; holds = holds.Nothing; number = 0 }
+blank = record { name = no_key; holds = None; number = 0 }
 
 -- The first record with this key.
 abbrev pub find : List NameRecord → List ℕ → Option NameRecord
 find [] key = None
 find (r ∷ rs) key = cond (bytes_eq r.name key) (Some r) (find rs key)
 
--- What a record holds that stands for an object of this kind.
-abbrev pub as_holds : Kind → Holds
-as_holds kind.Resource = holds.Resource
-as_holds kind.Event = holds.Event
-as_holds kind.Task = holds.Task
-
 -- What a record with this content stands for.
-abbrev pub meant : Holds → ℕ → Option Known
-meant holds.Nothing n = None
-meant holds.Resource n = Some (record { kind = kind.Resource; number = n })
-meant holds.Event n = Some (record { kind = kind.Event; number = n })
-meant holds.Task n = Some (record { kind = kind.Task; number = n })
+abbrev pub meant : Option Kind → ℕ → Option Known
+meant None n = None
+meant (Some k) n = Some (record { kind = k; number = n })
 
 -- What the record that was found stands for.
 abbrev pub known_by : Option NameRecord → Option Known

@@ -44,14 +44,12 @@ fn alone(task: u8) -> u64
 }
 
 // The vectors with the tasks added to the one at the index.
-pub(crate) fn add(vectors: [u64; 32], index: u8, tasks: u64) -> [u64; 32]
+pub(crate) fn add(mut vectors: [u64; 32], index: u8, tasks: u64) -> [u64; 32]
     requires { index < 32 }
     ensures { result ≡ added vectors index tasks }
 {
-    let mut after = vectors;
-    let at = index as usize;
-    after[at] |= tasks;
-    after
+    vectors[usize::from(index)] |= tasks;
+    vectors
 }
 
 // The draft with a task's number.
@@ -147,12 +145,11 @@ pub(crate) fn plan_of(draft: Draft) -> Plan
 {
     let Draft {
         declared,
-        tasks: _,
         resources,
         events,
         users,
         registered,
-        current: _,
+        ..
     } = draft;
     Plan {
         declared,

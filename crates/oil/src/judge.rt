@@ -7,7 +7,7 @@ ghost use Rattle.oil.specs.Records.{AllOk, entered, new_record, noted, ItemIn, R
 
 use crate::draft::{Draft, activate, add, finish, grow, next_number, prioritize};
 use crate::fault::{PlanCause, PlanFault, refuse};
-use crate::table::{NameRecord, holding, key, look_up};
+use crate::table::{NameRecord, key, look_up};
 use grammar::item::{Item, Kind};
 use letters::token::bytes_of;
 
@@ -29,10 +29,10 @@ fn declare(
         return Err(refuse(PlanCause::NameTaken, place));
     }
     let after = grow(draft, kind, place)?;
-    let used = draft.tasks as usize + draft.resources as usize + draft.events as usize;
+    let used = usize::from(draft.tasks) + usize::from(draft.resources) + usize::from(draft.events);
     names[used] = NameRecord {
         name: key(name),
-        holds: holding(kind),
+        holds: Some(kind),
         number: next_number(draft, kind),
     };
     Ok(after)

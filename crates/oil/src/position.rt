@@ -1,6 +1,7 @@
 // Places of a text as people count them.
-ghost use Rattle.std.specs.Prelude.{◌≡◌, ◌+◌, ◌^◌, ◌<◌};
-ghost use Rattle.oil.specs.Positions.{position, moved};
+ghost use Rattle.std.specs.Prelude.{◌≡◌, ◌+◌, count_by, reverse};
+ghost use Rattle.std.specs.List.{prefix_len};
+ghost use Rattle.oil.specs.Positions.{is_feed, in_line, position};
 
 // A line and a column, both counted from 1.
 #[derive(Clone, Copy, PartialEq, Debug)]
@@ -9,34 +10,31 @@ pub struct Position {
     pub column: usize,
 }
 
-// The position after one byte more.
-fn pass(at: Position, byte: u8) -> Position
-    requires line { at.line + 1 < 2 ^ 64 }
-    requires column { at.column + 1 < 2 ^ 64 }
-    ensures { result ≡ moved at byte }
+// The line right behind these bytes.
+fn line(front: &[u8]) -> usize
+    ensures { result ≡ 1 + count_by is_feed front.now }
 {
-    if byte == b'\n' {
-        Position {
-            line: at.line + 1,
-            column: 1,
-        }
-    } else {
-        Position {
-            line: at.line,
-            column: at.column + 1,
-        }
+    1 + front.iter().filter(|b| **b == b'\n').count()
+}
+
+// The column right behind these bytes.
+fn column(front: &[u8]) -> usize
+    ensures { result ≡ 1 + prefix_len in_line (reverse front.now) }
+{
+    let mut column = 1;
+    for byte in front {
+        column = if *byte == b'\n' { 1 } else { column + 1 };
     }
+    column
 }
 
 // The line and the column of a place in a text; a place beyond the end counts as the end.
 pub fn locate(text: &[u8], place: usize) -> Position
     ensures { result ≡ position text.now place }
 {
-    let end = text.len().min(place);
-    let front = &text[0..end];
-    let mut at = Position { line: 1, column: 1 };
-    for byte in front {
-        at = pass(at, *byte);
+    let front = text.get(..place).unwrap_or(text);
+    Position {
+        line: line(front),
+        column: column(front),
     }
-    at
 }
