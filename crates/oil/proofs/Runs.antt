@@ -1,6 +1,5 @@
 -- A whole text, item by item.
-use Rattle.std.proofs.Common.{◌≡◌, ℕ, zero, suc, ◌+◌, ◌-◌, ◌<◌, ◌≤◌, List, [], length, replicate, Ok, Err, Option, Result, sym, ap, ◌∙◌, subst, arith}
-use Rattle.plan.proofs.Zeros.{zeros, none_inside}
+use Rattle.std.proofs.Common.{◌≡◌, ℕ, zero, suc, ◌+◌, ◌-◌, ◌<◌, ◌≤◌, List, [], length, replicate, IfOk, Ok, Err, Option, Result, sym, ap, ◌∙◌, subst, arith}
 use Rattle.grammar.specs.declared.fault.GrammarFault.{GrammarFault}
 use Rattle.grammar.specs.declared.item.State.{State}
 use Rattle.grammar.specs.declared.item.Item.{Item}
@@ -17,11 +16,13 @@ use Rattle.oil.specs.declared.fault.PlanFault.{PlanFault}
 use Rattle.oil.specs.declared.reader.Progress.{Progress}
 use Rattle.oil.specs.declared.reader.Progress.TheVariants as progress
 use Rattle.oil.specs.Table.{blank, looked}
-use Rattle.oil.specs.Draft.{Drafted, empty_draft, SoundDraft, used}
+use Rattle.oil.specs.Sketch.{Bounded}
+use Rattle.oil.specs.Draft.{Drafted, empty_draft, used}
 use Rattle.oil.specs.Judging.{judged, lift_plan, proceed, advanced, resume}
 use Rattle.oil.specs.Reading.{Entry, look_up, names_at, gathered, read_all}
 use Rattle.oil.specs.Records.{AllOk, Ready, GoesOn, noted_at, carried, left_by, left_after, left_from}
 use Rattle.oil.proofs.Tables.{allok_blank}
+use Rattle.oil.proofs.Keeps.{kept_empty, judged_bounded}
 use Rattle.oil.proofs.Ties.{Tied, tied_none, advanced_tied, tied_after}
 
 -- what is done with what a step answers
@@ -77,6 +78,7 @@ pub record Going (text : List ℕ) (goal : Drafted) (left : List NameRecord) (na
   pub fuel : ℕ
   pub enough : length text < fuel + pos
   pub within : pos ≤ length text
+  pub bounded : Bounded d
   pub ready : Ready d names
   pub entries : List Entry
   pub tied : Tied names entries (used d)
@@ -110,11 +112,13 @@ module _ {text : List ℕ} {goal : Drafted} {left names : List NameRecord} {d : 
       let c = came text (looked names) d s pos (progress.More e t q) (sym is) in
       let st = c.step in
       let same_draft = more_is st.item c.draft e st t q c.goes in
-      let tie = tied_after text names g.entries d g.tied st.item pos st.pos c.draft (item_sits text s pos st c.item_is) g.ready c.judged_is in
+      let tie = tied_after text names g.entries d g.tied st.item pos st.pos c.draft (item_sits text s pos st c.item_is) g.bounded g.ready c.judged_is in
+      let few = subst (λ r. IfOk r Bounded) c.judged_is (judged_bounded g.bounded text (looked names) st.item) in
       record {
         fuel = g.fuel - 1;
         enough = omega arith;
         within = on.1;
+        bounded = subst Bounded same_draft few;
         ready = on.2;
         entries = names_at text g.entries d (item_at text s pos);
         tied = subst (λ ns. Tied ns (names_at text g.entries d (item_at text s pos)) (used e)) (sym noted)
@@ -124,21 +128,13 @@ module _ {text : List ℕ} {goal : Drafted} {left names : List NameRecord} {d : 
         stays = ap (λ ns. left_by (g.fuel - 1) text ns e t q) noted ∙ table (Ok (progress.More e t q)) is;
       }
 
-empty_sound : SoundDraft empty_draft
-empty_sound = record {
-  users_in = none_inside 32 0;
-  registered_in = none_inside 32 0;
-  users_end = λ i _. zeros 32 i;
-  registered_end = λ i _. zeros 32 i;
-  current_in = λ k h. h;
-}
-
 pub start : (text : List ℕ) (names : List NameRecord) (s : State) → begun text ≡ Ok s → names ≡ replicate (length names) blank → 128 ≤ length names → Going text (read_all text) (left_after text names) names empty_draft s 0
 start text names s e is room = record {
   fuel = suc (length text);
   enough = omega arith;
   within = omega arith;
-  ready = record { room = room; bounded = record { few_tasks = omega arith; few_resources = omega arith; few_events = omega arith }; sound = subst (λ ns. AllOk empty_draft ns) (sym is) (allok_blank empty_draft (length names)); vectors = empty_sound };
+  bounded = kept_empty.bounded;
+  ready = record { room = room; sound = subst (λ ns. AllOk empty_draft ns) (sym is) (allok_blank empty_draft (length names)) };
   entries = [];
   tied = subst (λ ns. Tied ns [] 0) (sym is) (tied_none (length names));
   same = sym (ap (λ r. and_then (lift_plan r) (λ t. gathered (suc (length text)) text [] empty_draft t 0)) e);

@@ -19,7 +19,8 @@ use Rattle.oil.specs.declared.table.NameRecord.{NameRecord}
 use Rattle.oil.specs.declared.table.Known.{Known}
 use Rattle.oil.specs.declared.draft.Draft.{Draft}
 use Rattle.oil.specs.Table.{blank, find, meant, known_by, looked, no_key}
-use Rattle.oil.specs.Draft.{Drafted, Bounded, used, next_number, grown, prioritized, activated}
+use Rattle.oil.specs.Sketch.{Bounded}
+use Rattle.oil.specs.Draft.{Drafted, used, next_number, grown, prioritized, activated}
 use Rattle.oil.specs.Judging.{unless_known, referred_to, referred_by, judged, lift_plan, proceed, advanced}
 use Rattle.oil.specs.Reading.{Entry, look_up, learnt, names_after}
 use Rattle.oil.specs.Records.{entered, new_record, noted, Ready}
@@ -72,10 +73,10 @@ tied_enter names es d k n t nm low none =
     }
 
 -- a declaration that is accepted
-abbrev Grows : Draft → Drafted → Type 0
+abbrev pub Grows : Draft → Drafted → Type 0
 Grows d r = IfOk r (λ e. (used e ≡ used d + 1) × (used d < 128))
 
-grown_used : (d : Draft) (k : Kind) (place : ℕ) → Bounded d → Grows d (grown d k place)
+pub grown_used : (d : Draft) (k : Kind) (place : ℕ) → Bounded d → Grows d (grown d k place)
 grown_used d kind.Resource place b = cond_both (eqb d.resources 32) _ _ (Grows d) (λ _. tt) (λ n. let ne = eqb-false d.resources 32 n in (omega arith, omega arith))
 grown_used d kind.Event place b = cond_both (eqb d.events 32) _ _ (Grows d) (λ _. tt) (λ n. let ne = eqb-false d.events 32 n in (omega arith, omega arith))
 grown_used d kind.Task place b = cond_both (eqb d.tasks 64) _ _ (Grows d) (λ _. tt) (λ n. let ne = eqb-false d.tasks 64 n in (omega arith, omega arith))
@@ -120,10 +121,10 @@ module _ (text : List ℕ) (names : List NameRecord) (es : List Entry) (d : Draf
   stays : (e : Draft) (r : Drafted) → Stays d r → r ≡ Ok e → Tied names es (used e)
   stays e r h is = subst (Tied names es) (sym (subst (Stays d) is h)) t
 
-  enters : (k : Kind) (n : List ℕ) (place : ℕ) (e : Draft) (o p : Option Known) → Named n → Ready d names → looked names n ≡ o → o ≡ p → unless_known o place (grown d k place) ≡ Ok e → Tied (entered names d (new_record d k n) (unless_known o place (grown d k place))) (learnt es d k n (unless_known p place (grown d k place))) (used e)
-  enters k n place e (Some x) p nm h lo eq is = let z : ◌≡◌ {A = ℕ} 0 1 = cc in absurd (omega arith)
-  enters k n place e None p nm h lo eq is =
-      let g = subst (Grows d) is (grown_used d k place h.bounded) in
+  enters : (k : Kind) (n : List ℕ) (place : ℕ) (e : Draft) (o p : Option Known) → Named n → Bounded d → Ready d names → looked names n ≡ o → o ≡ p → unless_known o place (grown d k place) ≡ Ok e → Tied (entered names d (new_record d k n) (unless_known o place (grown d k place))) (learnt es d k n (unless_known p place (grown d k place))) (used e)
+  enters k n place e (Some x) p nm b h lo eq is = let z : ◌≡◌ {A = ℕ} 0 1 = cc in absurd (omega arith)
+  enters k n place e None p nm b h lo eq is =
+      let g = subst (Grows d) is (grown_used d k place b) in
       let room = h.room in
       let low = g.1 in
       subst (λ q. Tied (entered names d (new_record d k n) (grown d k place)) (learnt es d k n (unless_known q place (grown d k place))) (used e)) eq
@@ -131,11 +132,11 @@ module _ (text : List ℕ) (names : List NameRecord) (es : List Entry) (d : Draf
       (subst (Tied (set names (used d) (new_record d k n)) (record { name = n; kind = k; number = next_number d k } ∷ es)) (sym g.0) (tied_enter names es d k n t nm (omega arith) lo)))
 
   -- the table and the names after an item
-  pub tied_after : (i : Item) (pos end : ℕ) (e : Draft) → ItemSits text i pos end → Ready d names → judged text (looked names) d i ≡ Ok e → Tied (noted text names d i) (names_after text es d i) (used e)
-  tied_after (item.Declares k u) pos end e o h is =
-      enters k (bytes_of text u) u.place e (looked names (bytes_of text u)) (look_up es (bytes_of text u)) o.2 h refl (t.same (bytes_of text u) o.2) is
-  tied_after (item.Priority n u) pos end e o h is = stays e (prioritized d n u.place) (prioritized_used d n u.place) is
-  tied_after (item.Activation n u) pos end e o h is = stays e (activated d n u.place) (cond_both (eqb n 1) _ _ (Stays d) (λ _. refl) (λ _. tt)) is
-  tied_after (item.Refers k u) pos end e o h is = stays e (referred_by d k (looked names (bytes_of text u)) u.place) (by_used d k (looked names (bytes_of text u)) u.place) is
-  tied_after item.Closes pos end e o h is = stays e (Ok d) refl is
-  tied_after item.End pos end e o h is = stays e (judged text (looked names) d item.End) (cond_both (eqb d.declared 0) _ _ (Stays d) (λ _. tt) (λ _. refl)) is
+  pub tied_after : (i : Item) (pos end : ℕ) (e : Draft) → ItemSits text i pos end → Bounded d → Ready d names → judged text (looked names) d i ≡ Ok e → Tied (noted text names d i) (names_after text es d i) (used e)
+  tied_after (item.Declares k u) pos end e o b h is =
+      enters k (bytes_of text u) u.place e (looked names (bytes_of text u)) (look_up es (bytes_of text u)) o.2 b h refl (t.same (bytes_of text u) o.2) is
+  tied_after (item.Priority n u) pos end e o b h is = stays e (prioritized d n u.place) (prioritized_used d n u.place) is
+  tied_after (item.Activation n u) pos end e o b h is = stays e (activated d n u.place) (cond_both (eqb n 1) _ _ (Stays d) (λ _. refl) (λ _. tt)) is
+  tied_after (item.Refers k u) pos end e o b h is = stays e (referred_by d k (looked names (bytes_of text u)) u.place) (by_used d k (looked names (bytes_of text u)) u.place) is
+  tied_after item.Closes pos end e o b h is = stays e (Ok d) refl is
+  tied_after item.End pos end e o b h is = stays e (judged text (looked names) d item.End) (cond_both (eqb d.declared 0) _ _ (Stays d) (λ _. tt) (λ _. refl)) is

@@ -8,3 +8,5 @@ pub mod Outcome
 pub mod Meaning
 pub mod First
 pub mod Positions
+pub mod Sketch
+pub mod Sketched

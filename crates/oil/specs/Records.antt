@@ -15,7 +15,7 @@ use Rattle.oil.specs.declared.draft.Draft.{Draft}
 use Rattle.oil.specs.declared.reader.Progress.{Progress}
 use Rattle.oil.specs.declared.reader.Progress.TheVariants as progress
 use Rattle.oil.specs.Table.{keyed, no_key, looked}
-use Rattle.oil.specs.Draft.{Drafted, empty_draft, Bounded, SoundDraft, next_number, used}
+use Rattle.oil.specs.Draft.{Drafted, empty_draft, next_number, used}
 use Rattle.oil.specs.Judging.{introduced, advanced, resume}
 
 -- The record of a new object.
@@ -79,12 +79,10 @@ ItemIn text (item.Declares k t) = length (bytes_of text t) ≤ 32
 ItemIn text (item.Refers k t) = length (bytes_of text t) ≤ 32
 ItemIn text i = Unit {0}
 
--- Draft and table are as the next item needs them.
+-- The table is as the next item needs it.
 pub record Ready (d : Draft) (names : List NameRecord) : Type 0 where
   pub room : 128 ≤ length names
-  pub bounded : Bounded d
   pub sound : AllOk d names
-  pub vectors : SoundDraft d
 
 -- The reading goes on further right, with draft and table ready.
 abbrev pub GoesOn : ℕ → ℕ → List NameRecord → Progress → Type 0

@@ -48,14 +48,14 @@ impl From<GrammarFault> for PlanFault {
     }
 }
 
-// A fault of the plan's own layer.
-pub fn refuse(cause: PlanCause, place: usize) -> PlanFault
-    ensures { result ≡ refusal cause place }
-{
-    PlanFault { cause, place }
-}
-
 impl PlanFault {
+    // A fault of the plan's own layer.
+    pub fn new(cause: PlanCause, place: usize) -> PlanFault
+        ensures { result ≡ refusal cause place }
+    {
+        PlanFault { cause, place }
+    }
+
     // The number of the fault, from 1 to 9.
     pub fn number(&self) -> u8
         ensures { result ≡ number_of self.now.cause }

@@ -1,8 +1,7 @@
 // Reads a plan text: item by item into a draft, and from a complete draft into the plan record.
-ghost use Rattle.std.specs.Prelude.{◌≡◌, ◌<◌, ◌≤◌, length, replicate, IfOk};
+ghost use Rattle.std.specs.Prelude.{◌≡◌, ◌≤◌, length, replicate, IfOk};
 ghost use Rattle.grammar.specs.Items.{item_at};
 ghost use Rattle.oil.specs.Table.{blank, looked};
-ghost use Rattle.oil.specs.Draft.{Bounded, SoundDraft};
 ghost use Rattle.oil.specs.Judging.{proceed, advanced};
 ghost use Rattle.oil.specs.Records.{Ready, noted_at, GoesOn, left_after};
 ghost use Rattle.oil.specs.Reading.{read_all, BoundFree};
@@ -10,16 +9,16 @@ ghost use Rattle.oil.specs.Outcome.{outcome, table_after, PlanAfter};
 ghost use Rattle.oil.specs.Meaning.{Understood};
 ghost use Rattle.oil.specs.First.{LeftFree, RightFree};
 
-use crate::draft::{Draft, empty, plan_of};
-use crate::fault::{PlanCause, PlanFault, refuse};
+use crate::draft::{Draft, EVENTS, RESOURCES, TASKS};
+use crate::fault::{PlanCause, PlanFault};
 use crate::judge::judge;
 use crate::table::{NameRecord, clear};
 use grammar::item::{Item, State, Step};
 use grammar::parser::{begin, next_item};
 use plan::record::Plan;
 
-// How many records a table needs: one for each of 64 tasks, 32 resources and 32 events.
-const RECORDS: usize = 128;
+// How many records a table needs: one for each task, resource and event.
+const RECORDS: usize = TASKS as usize + RESOURCES as usize + EVENTS as usize;
 
 // A text that is read to its end, or how to go on.
 #[derive(Clone, Copy)]
@@ -62,10 +61,9 @@ fn gather(text: &[u8], names: &mut [NameRecord]) -> Result<Draft, PlanFault>
     requires room { 128 ≤ length names.old }
     ensures value { result ≡ read_all text.now }
     ensures after { names.new ≡ left_after text.now names.old }
-    ensures sound { IfOk result (λ d. Bounded d × SoundDraft d) }
 {
     let mut state = begin(text)?;
-    let mut draft = empty();
+    let mut draft = Draft::empty();
     let mut pos = 0;
     loop {
         match advance(text, names, draft, state, pos)? {
@@ -97,12 +95,12 @@ pub fn read(text: &[u8], names: &mut [NameRecord], plan: &mut Plan) -> Result<()
     ensures nothing_right { RightFree text.now (length names.old) result }
 {
     if names.len() < RECORDS {
-        return Err(refuse(PlanCause::SmallTable, 0));
+        return Err(PlanFault::new(PlanCause::SmallTable, 0));
     }
     clear(names);
     let gathered = gather(text, names);
     clear(names);
     let draft = gathered?;
-    *plan = plan_of(draft);
+    *plan = draft.plan();
     Ok(())
 }

@@ -53,7 +53,8 @@ fn same_key(a: &[u8; 32], b: &[u8; 32]) -> bool
     a == b
 }
 
-// The first record of this name.
+// The first record of this name. A function of its own, since LLVM leaves the comparison a call where it joins a larger one.
+#[inline(never)]
 fn find_name(names: &[NameRecord], name: [u8; 32]) -> Option<NameRecord>
     ensures { result ≡ find names.now name }
 {

@@ -1,7 +1,6 @@
-use Rattle.std.proofs.Common.{IfOk, Err, sym, ap, ◌∙◌, subst, rules}
+use Rattle.std.proofs.Common.{Err, sym, ap, ◌∙◌, subst, rules}
 use Rattle.oil.specs.Reading.{read_all}
-use Rattle.oil.specs.Records.{Ready, left_after}
-use Rattle.oil.specs.Draft.{Bounded, SoundDraft}
+use Rattle.oil.specs.Records.{left_after}
 use Rattle.oil.proofs.Runs.{Going, start, going_done, going_fault, going_more}
 use Rattle.std.proofs.lemmas.Result.{err_from_is_err_and}
 use Rattle.oil.proofs.reader.gather.Goals as goal
@@ -21,17 +20,14 @@ returns-in_err-done c =
     record {
       value = p.1 ∙ ap Err p.2 ∙ x.0;
       after = x.1;
-      sound = subst (λ r. IfOk r (λ d. Bounded d × SoundDraft d)) (sym p.1) tt;
     }
 
 pub returns-in-Done : goal.returns-in-Done
 returns-in-Done c =
-    let on : Ready c.in-Done.done c.advance.new.names = search rules in
     let x = going_done c.loop-done.invariant c.in-Done.done c.advance.new.names (search rules) (search rules) in
     record {
       value = x.0;
       after = x.1;
-      sound = (on.bounded, on.vectors);
     }
 
 pub loop-done-preserved : goal.loop-done-preserved
