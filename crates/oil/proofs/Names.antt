@@ -1,5 +1,5 @@
 -- Names as the table holds them.
-use Rattle.std.proofs.Common.{◌≡◌, ℕ, zero, suc, ◌<◌, ◌≤◌, false, cond, eqb, List, [], ◌∷◌, length, get_or, set, replicate, Some, None, sym, refl, ap, ◌∙◌, ⊎_elim, add-one, arith}
+use Rattle.std.proofs.Common.{◌≡◌, ℕ, zero, suc, ◌<◌, ◌≤◌, false, cond, eqb, List, [], ◌∷◌, ◌++◌, length, drop, get_or, set, replicate, Some, None, sym, refl, ap, ◌∙◌, ⊎_elim, add-one, arith}
 use Rattle.std.proofs.lemmas.Bool.{cases_Bool, cond-true, cond-false, ne_eqb, true≢false}
 use Rattle.std.proofs.lemmas.Slice.Eq.{bytes_eq-Decides}
 use Rattle.std.specs.Str.{bytes_eq}
@@ -18,6 +18,12 @@ keyed_shift i (b ∷ bs) key x =
     ap (λ n. keyed n bs (x ∷ set key i b)) (add-one (suc i))
     ∙ keyed_shift (suc i) bs (set key i b) x
     ∙ ap (λ n. x ∷ keyed n bs (set key i b)) (sym (add-one i))
+
+-- a short name leaves the end of the key
+pub keyed_over : (n key : List ℕ) → length n ≤ length key → n ++ drop (length n) key ≡ keyed 0 n key
+keyed_over [] key l = refl
+keyed_over (b ∷ bs) [] l = absurd (omega arith)
+keyed_over (b ∷ bs) (x ∷ xs) l = ap (λ r. b ∷ r) (keyed_over bs xs (omega arith)) ∙ sym (keyed_shift 0 bs xs b)
 
 strip_zeros : (k : ℕ) → strip (replicate k 0) ≡ []
 unfolding strip

@@ -1,5 +1,6 @@
 -- The table of names, record by record.
 use Rattle.std.specs.Prelude.{ℕ, ◌+◌, cond, List, [], ◌∷◌, replicate, Some, None, Option, slice_set}
+use Rattle.std.specs.List.{find as first}
 use Rattle.std.specs.Str.{bytes_eq}
 use Rattle.grammar.specs.declared.item.Kind.{Kind}
 use Rattle.oil.specs.declared.table.Known.{Known}
@@ -20,8 +21,7 @@ blank = record { name = no_key; holds = None; number = 0 }
 
 -- The first record with this key.
 abbrev pub find : List NameRecord → List ℕ → Option NameRecord
-find [] key = None
-find (r ∷ rs) key = cond (bytes_eq r.name key) (Some r) (find rs key)
+find names key = first (λ r. bytes_eq r.name key) names
 
 -- What a record with this content stands for.
 abbrev pub meant : Option Kind → ℕ → Option Known

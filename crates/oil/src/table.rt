@@ -40,17 +40,8 @@ pub(crate) fn key(name: &[u8]) -> [u8; 32]
     ensures { result ≡ keyed 0 name.now no_key }
 {
     let mut all = [0; 32];
-    for (i, byte) in name.iter().enumerate() {
-        all[i] = *byte;
-    }
+    all[..name.len()].copy_from_slice(name);
     all
-}
-
-// Are both keys the same?
-fn same_key(a: &[u8; 32], b: &[u8; 32]) -> bool
-    ensures { result ≡ bytes_eq a.now b.now }
-{
-    a == b
 }
 
 // The first record of this name. A function of its own, since LLVM leaves the comparison a call where it joins a larger one.
@@ -58,12 +49,7 @@ fn same_key(a: &[u8; 32], b: &[u8; 32]) -> bool
 fn find_name(names: &[NameRecord], name: [u8; 32]) -> Option<NameRecord>
     ensures { result ≡ find names.now name }
 {
-    for record in names {
-        if same_key(&record.name, &name) {
-            return Some(*record);
-        }
-    }
-    None
+    names.iter().find(|record| record.name == name).copied()
 }
 
 // What the name of a record stands for: nothing where the record is empty.
@@ -86,7 +72,5 @@ pub(crate) fn look_up(names: &[NameRecord], name: &[u8]) -> Option<Known>
 pub(crate) fn clear(names: &mut [NameRecord])
     ensures { names.new ≡ replicate (length names.old) blank }
 {
-    for record in names.iter_mut() {
-        *record = NameRecord::empty();
-    }
+    names.fill(NameRecord::empty());
 }
