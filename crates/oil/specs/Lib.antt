@@ -10,3 +10,4 @@ pub mod First
 pub mod Positions
 pub mod Sketch
 pub mod Sketched
+pub mod Progress

@@ -1,9 +1,7 @@
 // Reads a plan text: item by item into a draft, and from a complete draft into the plan record.
-ghost use Rattle.std.specs.Prelude.{◌≡◌, ◌≤◌, length, replicate, IfOk};
-ghost use Rattle.grammar.specs.Items.{item_at};
-ghost use Rattle.oil.specs.Table.{blank, looked};
-ghost use Rattle.oil.specs.Judging.{proceed, advanced};
-ghost use Rattle.oil.specs.Records.{Ready, noted_at, GoesOn, left_after};
+ghost use Rattle.std.specs.Prelude.{◌≡◌, ◌≤◌, length, replicate};
+ghost use Rattle.oil.specs.Table.{blank};
+ghost use Rattle.oil.specs.Records.{left_after};
 ghost use Rattle.oil.specs.Reading.{read_all, BoundFree};
 ghost use Rattle.oil.specs.Outcome.{outcome, table_after, PlanAfter};
 ghost use Rattle.oil.specs.Meaning.{Understood};
@@ -12,48 +10,13 @@ ghost use Rattle.oil.specs.First.{LeftFree, RightFree};
 use crate::draft::{Draft, EVENTS, RESOURCES, TASKS};
 use crate::fault::{PlanCause, PlanFault};
 use crate::judge::judge;
-use crate::table::{NameRecord, clear};
-use grammar::item::{Item, State, Step};
+use crate::table::NameRecord;
+use grammar::item::Item;
 use grammar::parser::{begin, next_item};
 use plan::record::Plan;
 
 // How many records a table needs: one for each task, resource and event.
 const RECORDS: usize = TASKS as usize + RESOURCES as usize + EVENTS as usize;
-
-// A text that is read to its end, or how to go on.
-#[derive(Clone, Copy)]
-pub(crate) enum Progress {
-    Done(Draft),
-    More(Draft, State, usize),
-}
-
-// How to go on after a step that was accepted.
-fn carry_on(draft: Draft, step: Step) -> Progress
-    ensures { result ≡ proceed step.item draft step }
-{
-    match step.item {
-        Item::End => Progress::Done(draft),
-        _ => Progress::More(draft, step.state, step.pos),
-    }
-}
-
-// Reads an item and judges it.
-fn advance(
-    text: &[u8],
-    names: &mut [NameRecord],
-    draft: Draft,
-    state: State,
-    pos: usize,
-) -> Result<Progress, PlanFault>
-    requires { Ready draft names.old }
-    ensures value { result ≡ advanced text.now (looked names.old) draft state pos }
-    ensures after { names.new ≡ noted_at text.now names.old draft (item_at text.now state pos) }
-    ensures onward { IfOk result (λ p. GoesOn pos (length text.now) names.new p) }
-{
-    let step = next_item(text, state, pos)?;
-    let after = judge(text, names, draft, step.item)?;
-    Ok(carry_on(after, step))
-}
 
 // Reads a whole text, with an empty table.
 fn gather(text: &[u8], names: &mut [NameRecord]) -> Result<Draft, PlanFault>
@@ -66,14 +29,13 @@ fn gather(text: &[u8], names: &mut [NameRecord]) -> Result<Draft, PlanFault>
     let mut draft = Draft::empty();
     let mut pos = 0;
     loop {
-        match advance(text, names, draft, state, pos)? {
-            Progress::Done(done) => return Ok(done),
-            Progress::More(after, next, at) => {
-                draft = after;
-                state = next;
-                pos = at;
-            }
+        let step = next_item(text, state, pos)?;
+        draft = judge(text, names, draft, step.item)?;
+        if let Item::End = step.item {
+            return Ok(draft);
         }
+        state = step.state;
+        pos = step.pos;
     }
 }
 
@@ -97,9 +59,9 @@ pub fn read(text: &[u8], names: &mut [NameRecord], plan: &mut Plan) -> Result<()
     if names.len() < RECORDS {
         return Err(PlanFault::new(PlanCause::SmallTable, 0));
     }
-    clear(names);
+    names.fill(NameRecord::empty());
     let gathered = gather(text, names);
-    clear(names);
+    names.fill(NameRecord::empty());
     let draft = gathered?;
     *plan = draft.plan();
     Ok(())

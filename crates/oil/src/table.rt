@@ -32,6 +32,14 @@ impl NameRecord {
             number: 0,
         }
     }
+
+    // What the name of the record stands for: nothing where the record is empty.
+    fn known(&self) -> Option<Known>
+        ensures { result ≡ meant self.now.holds self.now.number }
+    {
+        let number = self.number;
+        self.holds.map(|kind| Known { kind, number })
+    }
 }
 
 // The name filled up with zeros.
@@ -44,33 +52,16 @@ pub(crate) fn key(name: &[u8]) -> [u8; 32]
     all
 }
 
-// The first record of this name. A function of its own, since LLVM leaves the comparison a call where it joins a larger one.
+// What a name stands for, if it is declared. A function of its own, since LLVM leaves the comparison a call where it
+// becomes part of a larger one.
 #[inline(never)]
-fn find_name(names: &[NameRecord], name: [u8; 32]) -> Option<NameRecord>
-    ensures { result ≡ find names.now name }
-{
-    names.iter().find(|record| record.name == name).copied()
-}
-
-// What the name of a record stands for: nothing where the record is empty.
-fn stands_for(entry: NameRecord) -> Option<Known>
-    ensures { result ≡ meant entry.holds entry.number }
-{
-    let number = entry.number;
-    entry.holds.map(|kind| Known { kind, number })
-}
-
-// What a name stands for, if it is declared.
 pub(crate) fn look_up(names: &[NameRecord], name: &[u8]) -> Option<Known>
     requires { length name.now ≤ 32 }
     ensures { result ≡ looked names.now name.now }
 {
-    find_name(names, key(name)).and_then(stands_for)
-}
-
-// Empties every record.
-pub(crate) fn clear(names: &mut [NameRecord])
-    ensures { names.new ≡ replicate (length names.old) blank }
-{
-    names.fill(NameRecord::empty());
+    let key = key(name);
+    names
+        .iter()
+        .find(|record| record.name == key)
+        .and_then(NameRecord::known)
 }
