@@ -4,6 +4,8 @@ ghost use Rattle.oil.specs.Faults.{raised_plan, refusal, number_of, layer_of, ex
 
 use grammar::fault::{GrammarCause, GrammarFault};
 use letters::fault::LettersCause;
+use std::error::Error;
+use std::fmt;
 
 // The layer of the reader that found a fault.
 #[derive(Clone, Copy, PartialEq, Debug)]
@@ -106,3 +108,17 @@ impl PlanFault {
         }
     }
 }
+
+// The words of the cause; the place is told by the caller, as a line and a column.
+impl fmt::Display for PlanFault {
+    ghost use Rattle.std.specs.Prelude.{Some};
+    ghost use Rattle.oil.specs.Faults.{explanation};
+
+    ghost output = { λ f. Some (explanation f.cause) };
+
+    fn fmt<W: fmt::Write>(&self, f: &mut fmt::Formatter<W>) -> fmt::Result {
+        f.write_str(self.explain())
+    }
+}
+
+impl Error for PlanFault {}

@@ -34,8 +34,8 @@ impl NameRecord {
     }
 
     // What the name of the record stands for: nothing where the record is empty.
-    fn known(&self) -> Option<Known>
-        ensures { result ≡ meant self.now.holds self.now.number }
+    fn known(self) -> Option<Known>
+        ensures { result ≡ meant self.holds self.number }
     {
         let number = self.number;
         self.holds.map(|kind| Known { kind, number })
@@ -62,6 +62,7 @@ pub(crate) fn look_up(names: &[NameRecord], name: &[u8]) -> Option<Known>
     let key = key(name);
     names
         .iter()
+        .copied()
         .find(|record| record.name == key)
         .and_then(NameRecord::known)
 }
