@@ -59,24 +59,6 @@ module _ {d : Draft} (h : Kept d) where
   s : SoundDraft d
   s = h.sound
 
-  pub kept_resource : d.resources < 32 → Kept (with_resources d (d.resources + 1))
-  kept_resource l = record {
-    bounded = record { few_tasks = b.few_tasks; few_resources = omega arith; few_events = b.few_events };
-    sound = record { users_in = s.users_in; registered_in = s.registered_in; users_end = λ i m. s.users_end i (omega arith); registered_end = s.registered_end; current_in = s.current_in };
-  }
-
-  pub kept_event : d.events < 32 → Kept (with_events d (d.events + 1))
-  kept_event l = record {
-    bounded = record { few_tasks = b.few_tasks; few_resources = b.few_resources; few_events = omega arith };
-    sound = record { users_in = s.users_in; registered_in = s.registered_in; users_end = s.users_end; registered_end = λ i m. s.registered_end i (omega arith); current_in = s.current_in };
-  }
-
-  pub kept_task : d.tasks < 64 → Kept (with_tasks d (d.tasks + 1))
-  kept_task l = record {
-    bounded = record { few_tasks = omega arith; few_resources = b.few_resources; few_events = b.few_events };
-    sound = record { users_in = s.users_in; registered_in = s.registered_in; users_end = s.users_end; registered_end = s.registered_end; current_in = s.current_in };
-  }
-
   pub kept_priority : (value : ℕ) → Kept (record d { declared = bit_or d.declared (2 ^ value); current = 2 ^ value })
   kept_priority value = record {
     bounded = record { few_tasks = b.few_tasks; few_resources = b.few_resources; few_events = b.few_events };
