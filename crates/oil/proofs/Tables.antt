@@ -15,7 +15,7 @@ use Rattle.oil.specs.declared.table.Known.{Known}
 use Rattle.oil.specs.declared.draft.Draft.{Draft}
 use Rattle.oil.specs.declared.fault.PlanCause.TheVariants as cause
 use Rattle.oil.specs.Faults.{refusal}
-use Rattle.oil.specs.Table.{keyed, no_key, find, blank, meant, known_by, looked}
+use Rattle.oil.specs.Table.{key_of, find, blank, meant, known_by, looked}
 use Rattle.oil.specs.Draft.{Drafted, next_number, used, grown, with_resources, with_events, with_tasks, with_users, with_registered, prioritized, added}
 use Rattle.oil.specs.Judging.{unless_known, referred_to, referred_by, judged, proceed}
 use Rattle.oil.specs.Records.{AllOk, RecordOk, NumberOk, Ready, entered, noted, GoesOn, ItemIn}
@@ -42,7 +42,7 @@ find_ok d (r ∷ rs) key h =
 
 -- what is found has a number that is declared
 found_ok : (d : Draft) (names : List NameRecord) (n : List ℕ) (x : Known) → AllOk d names → Some x ≡ looked names n → KindOk d x.kind x.number
-found_ok d names n x h e = subst (KnownOk d) (sym e) (find_ok d names (keyed 0 n no_key) h)
+found_ok d names n x h e = subst (KnownOk d) (sym e) (find_ok d names (key_of n) h)
 
 pub resource_low : (d : Draft) (names : List NameRecord) (n : List ℕ) (x : Known) → AllOk d names → Some x ≡ looked names n → x.kind ≡ kind.Resource → x.number < d.resources
 resource_low d names n x h e is = subst (λ k. KindOk d k x.number) is (found_ok d names n x h e)
@@ -121,7 +121,7 @@ by_ready d names k (Some x) place h = to_ready d names k x.kind x.number place h
 
 -- an item that is not refused leaves a table that is ready
 pub judged_ready : (text : List ℕ) (names : List NameRecord) (d : Draft) (i : Item) → Ready d names → Same (noted text names d i) (judged text (looked names) d i)
-judged_ready text names d (item.Declares k t) h = declared_ready d names k (keyed 0 (bytes_of text t) no_key) t.place (looked names (bytes_of text t)) h
+judged_ready text names d (item.Declares k t) h = declared_ready d names k (key_of (bytes_of text t)) t.place (looked names (bytes_of text t)) h
 judged_ready text names d (item.Priority n t) h = prioritized_ready d names n t.place h
 judged_ready text names d (item.Activation n t) h = cond_both (eqb n 1) _ _ (Same names) (λ _. h) (λ _. tt)
 judged_ready text names d (item.Refers k t) h = by_ready d names k (looked names (bytes_of text t)) t.place h

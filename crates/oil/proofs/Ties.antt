@@ -18,18 +18,18 @@ use Rattle.grammar.proofs.Sits.{ItemSits, item_sits}
 use Rattle.oil.specs.declared.table.NameRecord.{NameRecord}
 use Rattle.oil.specs.declared.table.Known.{Known}
 use Rattle.oil.specs.declared.draft.Draft.{Draft}
-use Rattle.oil.specs.Table.{blank, find, meant, known_by, looked, no_key}
+use Rattle.oil.specs.Table.{blank, find, meant, known_by, looked, key_of, no_key}
 use Rattle.oil.specs.Sketch.{Bounded}
 use Rattle.oil.specs.Draft.{Drafted, used, next_number, grown, prioritized, activated}
 use Rattle.oil.specs.Judging.{unless_known, referred_to, referred_by, judged, lift_plan, proceed, advanced}
 use Rattle.oil.specs.Reading.{Entry, look_up, learnt, names_after}
 use Rattle.oil.specs.Records.{entered, new_record, noted, Ready}
-use Rattle.oil.proofs.Names.{key_for, key_some, key_tests, find_set, same_no}
+use Rattle.oil.proofs.Names.{key_some, key_tests, find_set, same_no}
 
 -- the table knows the names es and no others, and is blank from the first record that is not used
 pub record Tied (names : List NameRecord) (es : List Entry) (u : ℕ) : Type 0 where
   pub same : (n : List ℕ) → Named n → looked names n ≡ look_up es n
-  pub filled : (n : List ℕ) → Named n → looked names n ≡ None → find names (key_for n) ≡ None
+  pub filled : (n : List ℕ) → Named n → looked names n ≡ None → find names (key_of n) ≡ None
   pub empty : (i : ℕ) → u ≤ i → get_or names i blank ≡ blank
 
 find_blank : (k : ℕ) (key : List ℕ) → (key ≡ no_key → ⊥) → find (replicate k blank) key ≡ None
@@ -43,8 +43,8 @@ at_blank (suc k) (suc i) = at_blank k i
 
 pub tied_none : (k : ℕ) → Tied (replicate k blank) [] 0
 tied_none k = record {
-  same = λ n h. ap known_by (find_blank k (key_for n) (key_some n h));
-  filled = λ n h _. find_blank k (key_for n) (key_some n h);
+  same = λ n h. ap known_by (find_blank k (key_of n) (key_some n h));
+  filled = λ n h _. find_blank k (key_of n) (key_some n h);
   empty = λ i _. at_blank k i;
 }
 
@@ -56,17 +56,17 @@ known_cond false r o = refl
 tied_enter : (names : List NameRecord) (es : List Entry) (d : Draft) (k : Kind) (n : List ℕ) → Tied names es (used d) → Named n → used d < length names → looked names n ≡ None → Tied (set names (used d) (new_record d k n)) (record { name = n; kind = k; number = next_number d k } ∷ es) (used d + 1)
 tied_enter names es d k n t nm low none =
     let r = new_record d k n in
-    let found : (m : List ℕ) → Named m → find (set names (used d) r) (key_for m) ≡ cond (bytes_eq n m) (Some r) (find names (key_for m)) = λ m mm.
-    find_set names (used d) r (key_for m) low (t.empty (used d) (omega arith)) (t.filled n nm none) (key_some m mm)
-    ∙ ap (λ b. cond b (Some r) (find names (key_for m))) (key_tests n m nm mm) in
+    let found : (m : List ℕ) → Named m → find (set names (used d) r) (key_of m) ≡ cond (bytes_eq n m) (Some r) (find names (key_of m)) = λ m mm.
+    find_set names (used d) r (key_of m) low (t.empty (used d) (omega arith)) (t.filled n nm none) (key_some m mm)
+    ∙ ap (λ b. cond b (Some r) (find names (key_of m))) (key_tests n m nm mm) in
     let x : Option Known = Some (record { kind = k; number = next_number d k }) in
     let is : (m : List ℕ) → Named m → looked (set names (used d) r) m ≡ cond (bytes_eq n m) x (looked names m) = λ m mm.
-    ap known_by (found m mm) ∙ known_cond (bytes_eq n m) r (find names (key_for m)) in
+    ap known_by (found m mm) ∙ known_cond (bytes_eq n m) r (find names (key_of m)) in
     record {
       same = λ m mm. is m mm ∙ ap (cond (bytes_eq n m) x) (t.same m mm);
       filled = λ m mm z. ⊎_elim
           (λ y. absurd (let e : x ≡ None = sym (is m mm ∙ cond-true (bytes_eq n m) x (looked names m) y) ∙ z in let q : ◌≡◌ {A = ℕ} 0 1 = cc in omega arith))
-          (λ no. found m mm ∙ cond-false (bytes_eq n m) (Some r) (find names (key_for m)) no
+          (λ no. found m mm ∙ cond-false (bytes_eq n m) (Some r) (find names (key_of m)) no
           ∙ t.filled m mm (sym (is m mm ∙ cond-false (bytes_eq n m) x (looked names m) no) ∙ z))
           (cases_Bool (bytes_eq n m));
       empty = λ i l. get_or-set_other names (used d) i r blank (λ q. absurd (omega (arith, q))) ∙ t.empty i (omega arith);

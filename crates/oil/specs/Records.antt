@@ -13,13 +13,13 @@ use Rattle.oil.specs.declared.table.NameRecord.{NameRecord}
 use Rattle.oil.specs.declared.fault.PlanFault.{PlanFault}
 use Rattle.oil.specs.declared.draft.Draft.{Draft}
 use Rattle.oil.specs.Progress.{Progress, Done, More}
-use Rattle.oil.specs.Table.{keyed, no_key, looked}
+use Rattle.oil.specs.Table.{key_of, looked}
 use Rattle.oil.specs.Draft.{Drafted, empty_draft, next_number, used}
 use Rattle.oil.specs.Judging.{introduced, advanced, resume}
 
 -- The record of a new object.
 abbrev pub new_record : Draft → Kind → List ℕ → NameRecord
-new_record d k name = record { name = keyed 0 name no_key; holds = Some k; number = next_number d k }
+new_record d k name = record { name = key_of name; holds = Some k; number = next_number d k }
 
 -- The table after a declaration: a refused one leaves it.
 abbrev pub entered : List NameRecord → Draft → NameRecord → Drafted → List NameRecord

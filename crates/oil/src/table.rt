@@ -1,7 +1,7 @@
 // The table of the names that are declared, in the caller's memory.
 ghost use Rattle.std.specs.Prelude.{◌≡◌, ◌≤◌, length, replicate};
 ghost use Rattle.std.specs.Str.{bytes_eq};
-ghost use Rattle.oil.specs.Table.{keyed, no_key, blank, find, meant, looked};
+ghost use Rattle.oil.specs.Table.{key_of, blank, meant, looked};
 
 use grammar::item::Kind;
 
@@ -45,7 +45,7 @@ impl NameRecord {
 // The name filled up with zeros.
 pub(crate) fn key(name: &[u8]) -> [u8; 32]
     requires { length name.now ≤ 32 }
-    ensures { result ≡ keyed 0 name.now no_key }
+    ensures { result ≡ key_of name.now }
 {
     let mut all = [0; 32];
     all[..name.len()].copy_from_slice(name);
