@@ -2,7 +2,7 @@
 ghost use Rattle.std.specs.Prelude.{◌≡◌, ◌+◌, ◌^◌, ◌<◌, cond, nat_lt, Ok, Err, IfOk};
 ghost use Rattle.oil.specs.declared.fault.PlanCause.TheVariants as cause;
 ghost use Rattle.oil.specs.Faults.{refusal};
-ghost use Rattle.oil.specs.Draft.{added, prioritized, activated, grown, next_number as next, finished, empty_draft, used as names_of, with_users, with_registered, Shows};
+ghost use Rattle.oil.specs.Draft.{added, prioritized, activated, grown, next_number as next, finished, empty_draft, used as names_of, with_users, with_registered};
 
 use crate::fault::{PlanCause, PlanFault};
 use grammar::item::Kind;
@@ -18,7 +18,8 @@ pub(crate) const RESOURCES: u8 = 32;
 pub(crate) const EVENTS: u8 = 32;
 
 // The vector of the tasks that are declared so far and how many tasks there are, the counts of resources and events
-// with their vectors, and the task at hand as a vector of its own, empty before the first.
+// with their vectors, and the task at hand as a vector of its own, empty before the first. A plan is `Copy` with rows
+// of fixed length, and so is a draft.
 #[derive(Clone, Copy)]
 pub struct Draft {
     declared: u64,
@@ -96,7 +97,8 @@ impl Draft {
         usize::from(self.tasks) + usize::from(self.resources) + usize::from(self.events)
     }
 
-    // The number of the next object of this kind; a task gets its number from its PRIORITY.
+    // The number of the next object of this kind; a task gets its number from its PRIORITY. It is 0 for a task, and no
+    // Option, since a record of the table has a number whatever it holds.
     pub(crate) fn next_number(&self, kind: Kind) -> u8
         ensures { result ≡ next self.now kind }
     {
@@ -183,11 +185,15 @@ impl Draft {
             Ok(self)
         }
     }
+}
 
-    // The plan of a draft.
-    pub(crate) fn plan(self) -> Plan
-        ensures { Shows self result.declared result.resources result.events result.users result.registered }
-    {
+// The plan of a draft.
+impl From<Draft> for Plan {
+    ghost use Rattle.oil.specs.Draft.{Shows};
+
+    ghost from_gives = { λ d p. Shows d p.declared p.resources p.events p.users p.registered };
+
+    fn from(draft: Draft) -> Plan {
         let Draft {
             declared,
             resources,
@@ -195,7 +201,7 @@ impl Draft {
             users,
             registered,
             ..
-        } = self;
+        } = draft;
         Plan {
             declared,
             resources,

@@ -58,7 +58,7 @@ impl PlanFault {
         PlanFault { cause, place }
     }
 
-    // The number of the fault, from 1 to 9.
+    // The number of the fault, from 1 to 9, as the programs print it; a cause in a cause has no discriminant of its own.
     pub fn number(&self) -> u8
         ensures { result ≡ number_of self.now.cause }
     {
@@ -86,14 +86,14 @@ impl PlanFault {
         }
     }
 
-    // The byte of the text where the fault was found.
+    // The byte of the text where the fault was found, beside the number and the layer for callers that print the three.
     pub fn place(&self) -> usize
         ensures { result ≡ self.now.place }
     {
         self.place
     }
 
-    // What was wrong, in a few words.
+    // What was wrong, in a few words, as a text that stays: callers print it as bytes with no formatter.
     pub fn explain(&self) -> &'static str
         ensures { result.now ≡ explanation self.now.cause }
     {

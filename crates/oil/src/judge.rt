@@ -1,4 +1,5 @@
-// What an item does to the draft and to the table of names.
+// What an item does to the draft and to the table of names. The table is the caller's memory: a struct of both could
+// only borrow it, and each clause would name its two parts as it names them now.
 ghost use Rattle.std.specs.Prelude.{◌≡◌, ◌≤◌, length};
 ghost use Rattle.oil.specs.Table.{looked};
 ghost use Rattle.oil.specs.Judging.{introduced, referred, judged};

@@ -63,6 +63,6 @@ pub fn read(text: &[u8], names: &mut [NameRecord], plan: &mut Plan) -> Result<()
     let gathered = gather(text, names);
     names.fill(NameRecord::empty());
     let draft = gathered?;
-    *plan = draft.plan();
+    *plan = Plan::from(draft);
     Ok(())
 }

@@ -37,8 +37,10 @@ impl NameRecord {
     fn known(self) -> Option<Known>
         ensures { result ≡ meant self.holds self.number }
     {
-        let number = self.number;
-        self.holds.map(|kind| Known { kind, number })
+        self.holds.map(|kind| Known {
+            kind,
+            number: self.number,
+        })
     }
 }
 
