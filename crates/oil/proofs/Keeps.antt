@@ -1,5 +1,5 @@
 -- What is true of every draft stays true of the drafts that are made of it.
-use Rattle.std.proofs.Common.{◌≡◌, ℕ, zero, suc, ◌+◌, ◌^◌, ◌<◌, ◌≤◌, eqb, ltb, ◌≢◌, List, [], ◌∷◌, get_or, set, IfOk, Some, None, Option, sym, ◌∙◌, ⊎_elim, arith, get_or-set_other}
+use Rattle.std.proofs.Common.{ℕ, zero, suc, ◌^◌, ◌<◌, eqb, ltb, ◌≢◌, List, [], ◌∷◌, get_or, set, IfOk, Some, None, Option, sym, ◌∙◌, ⊎_elim, arith, get_or-set_other}
 use lib.Bits.{bit_or}
 use Rattle.std.proofs.lemmas.Bool.{cond_both, eqb-false, or_left, or_right, or_cases}
 use Rattle.vectors.specs.Vectors.{in_vector}
@@ -14,7 +14,7 @@ use Rattle.grammar.specs.declared.item.Item.TheVariants as item
 use Rattle.oil.specs.declared.table.Known.{Known}
 use Rattle.oil.specs.declared.draft.Draft.{Draft}
 use Rattle.oil.specs.Sketch.{Within, Bounded, SoundDraft, Kept}
-use Rattle.oil.specs.Draft.{Drafted, empty_draft, grown, with_resources, with_events, with_tasks, with_users, with_registered, prioritized, added}
+use Rattle.oil.specs.Draft.{empty_draft, grown, with_users, with_registered, added}
 use Rattle.oil.specs.Judging.{unless_known, referred_to, referred_by, judged}
 
 within_or_left : (v a b : ℕ) → Within v a → Within v (bit_or a b)

@@ -20,8 +20,8 @@ use Rattle.oil.specs.Draft.{Drafted, empty_draft, used}
 use Rattle.oil.specs.Faults.{raised_plan}
 use Rattle.oil.specs.Judging.{judged, lift_plan, proceed, advanced, resume}
 use Rattle.oil.specs.Reading.{Entry, look_up, names_at, gathered, read_all}
-use Rattle.oil.specs.Records.{AllOk, ItemIn, Ready, GoesOn, noted, noted_at, carried, left_by, left_after, left_from}
-use Rattle.oil.proofs.Tables.{allok_blank, goes_on, item_in, judged_ok}
+use Rattle.oil.specs.Records.{AllOk, ItemIn, Ready, noted, noted_at, carried, left_by, left_after, left_from}
+use Rattle.oil.proofs.Tables.{GoesOn, allok_blank, goes_on, item_in, judged_ok}
 use Rattle.oil.proofs.Keeps.{kept_empty, judged_bounded}
 use Rattle.oil.proofs.Ties.{Tied, tied_none, advanced_tied, tied_after}
 

@@ -18,7 +18,8 @@ use Rattle.oil.specs.Faults.{refusal}
 use Rattle.oil.specs.Table.{key_of, find, blank, meant, known_by, looked}
 use Rattle.oil.specs.Draft.{Drafted, next_number, used, grown, with_resources, with_events, with_tasks, with_users, with_registered, prioritized, added}
 use Rattle.oil.specs.Judging.{unless_known, referred_to, referred_by, judged, proceed}
-use Rattle.oil.specs.Records.{AllOk, RecordOk, NumberOk, Ready, entered, noted, GoesOn, ItemIn}
+use Rattle.oil.specs.Records.{AllOk, RecordOk, NumberOk, Ready, entered, noted, ItemIn}
+use Rattle.oil.specs.Progress.{Progress, Done, More}
 
 -- the number of a known resource or event is one that is declared
 abbrev KindOk : Draft → Kind → ℕ → Type 0
@@ -127,6 +128,11 @@ judged_ready text names d (item.Activation n t) h = cond_both (eqb n 1) _ _ (Sam
 judged_ready text names d (item.Refers k t) h = by_ready d names k (looked names (bytes_of text t)) t.place h
 judged_ready text names d item.Closes h = h
 judged_ready text names d item.End h = cond_both (eqb d.declared 0) _ _ (Same names) (λ _. tt) (λ _. h)
+
+-- the reading goes on further right, with the table ready
+abbrev pub GoesOn : ℕ → ℕ → List NameRecord → Progress → Type 0
+GoesOn pos high names (Done d) = Ready d names
+GoesOn pos high names (More d s p) = (pos < p) × (p ≤ high) × Ready d names
 
 pub goes_on : (text : List ℕ) (i : Item) (s : Step) (d : Draft) (names : List NameRecord) (pos : ℕ) → ItemSits text i pos s.pos → Ready d names → GoesOn pos (length text) names (proceed i d s)
 goes_on text (item.Declares k t) s d names pos o h = let a = o.0.3 in let b = o.0.4 in let c = o.1 in (omega arith, omega arith, h)

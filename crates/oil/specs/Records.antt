@@ -12,7 +12,7 @@ use Rattle.grammar.specs.Items.{item_at, begun}
 use Rattle.oil.specs.declared.table.NameRecord.{NameRecord}
 use Rattle.oil.specs.declared.fault.PlanFault.{PlanFault}
 use Rattle.oil.specs.declared.draft.Draft.{Draft}
-use Rattle.oil.specs.Progress.{Progress, Done, More}
+use Rattle.oil.specs.Progress.{Progress}
 use Rattle.oil.specs.Table.{key_of, looked}
 use Rattle.oil.specs.Draft.{Drafted, empty_draft, next_number, used}
 use Rattle.oil.specs.Judging.{introduced, advanced, resume}
@@ -82,8 +82,3 @@ ItemIn text i = Unit {0}
 pub record Ready (d : Draft) (names : List NameRecord) : Type 0 where
   pub room : 128 ≤ length names
   pub sound : AllOk d names
-
--- The reading goes on further right, with draft and table ready.
-abbrev pub GoesOn : ℕ → ℕ → List NameRecord → Progress → Type 0
-GoesOn pos high names (Done d) = Ready d names
-GoesOn pos high names (More d s p) = (pos < p) × (p ≤ high) × Ready d names
