@@ -54,8 +54,8 @@ pub(crate) fn key(name: &[u8]) -> [u8; 32]
     all
 }
 
-// What a name stands for, if it is declared. A function of its own, since LLVM leaves the comparison a call where it
-// becomes part of a larger one.
+// What a name stands for, if it is declared. A function of its own that goes over copies of the records: LLVM then makes
+// the comparison of two names part of the loop, and leaves it a call otherwise.
 #[inline(never)]
 pub(crate) fn look_up(names: &[NameRecord], name: &[u8]) -> Option<Known>
     requires { length name.now ≤ 32 }

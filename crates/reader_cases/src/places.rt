@@ -30,7 +30,10 @@ fn words(rt: HostRuntime) -> Result<(), Fail> {
         ("OIL_VERSION=\"2.5\";CPU c{};", "the text declares no task"),
     ];
     for (text, words) in cases {
-        assert_eq!(rt; refused(text)?.explain(), words);
+        let fault = refused(text)?;
+        assert_eq!(rt; fault.explain(), words);
+        let printed = format!(in rt.alloc(); "{fault}")?;
+        assert_eq!(rt; printed.as_str(), words);
     }
     Ok(())
 }
