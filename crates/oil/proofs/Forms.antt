@@ -3,17 +3,11 @@ use Rattle.std.proofs.Common.{◌≡◌, ℕ, zero, suc, ◌<◌, ◌≤◌, Lis
 use Rattle.grammar.specs.Language.{Reference, Object, resource, event, task}
 use Rattle.oil.specs.Meaning.{At, In, Distinct, names_of, resources_of, events_of, priorities_of, activations_of, Grounded, WellFormed}
 use Rattle.oil.proofs.Vectors.{at_split, at_low, in_split}
-use Rattle.oil.proofs.Judged.{names_app, resources_app, events_app, priorities_app, Allowed, AllowedFrom, joined}
+use Rattle.oil.proofs.Judged.{names_app, resources_app, events_app, priorities_app, activations_app, Allowed, AllowedFrom, joined}
 
 pub joined_app : (os before : List Object) → joined before os ≡ before ++ os
 joined_app [] before = sym (append-nil before)
 joined_app (o ∷ os) before = joined_app os (before ++ (o ∷ [])) ∙ append_assoc before (o ∷ []) os
-
-activations_app : (xs bs : List Object) → activations_of (xs ++ bs) ≡ activations_of xs ++ activations_of bs
-activations_app [] bs = refl
-activations_app (resource n ∷ xs) bs = activations_app xs bs
-activations_app (event n ∷ xs) bs = activations_app xs bs
-activations_app (task n p a rs ∷ xs) bs = ap (λ l. a ∷ l) (activations_app xs bs)
 
 module _ {X : Type 0} where
   at_left : (xs ys : List X) (i : ℕ) (x : X) → At xs i x → At (xs ++ ys) i x

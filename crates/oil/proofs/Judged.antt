@@ -1,5 +1,5 @@
 -- A text of some objects, judged object by object.
-use Rattle.std.proofs.Common.{◌≡◌, ℕ, zero, suc, ◌+◌, ◌-◌, ◌^◌, ◌<◌, true, false, eqb, ltb, List, [], ◌∷◌, ◌++◌, length, Some, None, Ok, Err, Option, Result, sym, refl, ap, ◌∙◌, subst, ⊎_elim, append_assoc, append-nil, arith, length-append, MatchResult}
+use Rattle.std.proofs.Common.{◌≡◌, ℕ, zero, suc, ◌+◌, ◌-◌, ◌^◌, ◌<◌, true, false, eqb, ltb, List, [], ◌∷◌, ◌++◌, length, Some, None, Ok, Err, Option, Result, sym, refl, ap, ◌∙◌, subst, ⊎_elim, append-nil, arith, length-append, MatchResult}
 use lib.Bits.{bit_or}
 use Rattle.std.proofs.lemmas.Bool.{cond_both, eqb-true, eqb-false, ltb-true, ltb-false}
 use Rattle.vectors.specs.Vectors.{in_vector}
@@ -17,44 +17,34 @@ use Rattle.oil.specs.Faults.{raised_plan}
 use Rattle.oil.specs.Draft.{Drafted, added, prioritized, activated, with_resources, with_events, with_tasks, with_users, with_registered, grown, next_number}
 use Rattle.oil.specs.Judging.{lift_plan, unless_known, referred_to, referred_by, judged, proceed, resume}
 use Rattle.oil.specs.Reading.{Entry, look_up, learnt, names_after, names_at, gathered}
-use Rattle.oil.specs.Meaning.{At, In, name_of, names_of, resources_of, events_of, priorities_of, AllEarlier, uses_in, awaits_in, users_of, registered_of}
+use Rattle.std.proofs.lemmas.Grind.{flat_map-append}
+use Rattle.std.proofs.lemmas.List.{map-append}
+use Rattle.std.proofs.lemmas.List.Elements.{filter_map-append}
+use Rattle.oil.specs.Meaning.{At, In, name_of, resource_name, event_name, priority, activation, names_of, resources_of, events_of, priorities_of, activations_of, AllEarlier, uses_of, awaits_of, users_of, registered_of}
 use Rattle.oil.proofs.Vectors.{at_new, at_split, vector_more}
 use Rattle.oil.proofs.Stands.{ext_same, ext_more, StandsFor, Looked, Book, enter, vecs_declare, vecs_like, Drawn}
 
 -- the lists of several objects
 pub names_app : (xs bs : List Object) → names_of (xs ++ bs) ≡ names_of xs ++ names_of bs
-names_app [] bs = refl
-names_app (o ∷ xs) bs = ap (λ l. name_of o ∷ l) (names_app xs bs)
+names_app = map-append name_of
 
 pub resources_app : (xs bs : List Object) → resources_of (xs ++ bs) ≡ resources_of xs ++ resources_of bs
-resources_app [] bs = refl
-resources_app (resource n ∷ xs) bs = ap (λ l. n ∷ l) (resources_app xs bs)
-resources_app (event n ∷ xs) bs = resources_app xs bs
-resources_app (task n p a rs ∷ xs) bs = resources_app xs bs
+resources_app = filter_map-append resource_name
 
 pub events_app : (xs bs : List Object) → events_of (xs ++ bs) ≡ events_of xs ++ events_of bs
-events_app [] bs = refl
-events_app (resource n ∷ xs) bs = events_app xs bs
-events_app (event n ∷ xs) bs = ap (λ l. n ∷ l) (events_app xs bs)
-events_app (task n p a rs ∷ xs) bs = events_app xs bs
+events_app = filter_map-append event_name
 
 pub priorities_app : (xs bs : List Object) → priorities_of (xs ++ bs) ≡ priorities_of xs ++ priorities_of bs
-priorities_app [] bs = refl
-priorities_app (resource n ∷ xs) bs = priorities_app xs bs
-priorities_app (event n ∷ xs) bs = priorities_app xs bs
-priorities_app (task n p a rs ∷ xs) bs = ap (λ l. p ∷ l) (priorities_app xs bs)
+priorities_app = filter_map-append priority
+
+pub activations_app : (xs bs : List Object) → activations_of (xs ++ bs) ≡ activations_of xs ++ activations_of bs
+activations_app = filter_map-append activation
 
 pub users_app : (n : List ℕ) (xs bs : List Object) → users_of n (xs ++ bs) ≡ users_of n xs ++ users_of n bs
-users_app n [] bs = refl
-users_app n (resource m ∷ xs) bs = users_app n xs bs
-users_app n (event m ∷ xs) bs = users_app n xs bs
-users_app n (task m p a rs ∷ xs) bs = ap (λ l. uses_in n p rs ++ l) (users_app n xs bs) ∙ sym (append_assoc (uses_in n p rs) (users_of n xs) (users_of n bs))
+users_app n = flat_map-append (uses_of n)
 
 pub registered_app : (n : List ℕ) (xs bs : List Object) → registered_of n (xs ++ bs) ≡ registered_of n xs ++ registered_of n bs
-registered_app n [] bs = refl
-registered_app n (resource m ∷ xs) bs = registered_app n xs bs
-registered_app n (event m ∷ xs) bs = registered_app n xs bs
-registered_app n (task m p a rs ∷ xs) bs = ap (λ l. awaits_in n p rs ++ l) (registered_app n xs bs) ∙ sym (append_assoc (awaits_in n p rs) (registered_of n xs) (registered_of n bs))
+registered_app n = flat_map-append (awaits_of n)
 
 -- what an object needs after others
 abbrev pub Allowed : List Object → Object → Type 0

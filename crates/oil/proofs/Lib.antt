@@ -12,3 +12,4 @@ pub mod Understands
 pub mod First
 pub mod Bounds
 pub mod Laws
+pub mod Keeps

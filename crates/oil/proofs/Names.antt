@@ -1,47 +1,44 @@
 -- Names as the table holds them.
-use Rattle.std.proofs.Common.{◌≡◌, ℕ, zero, suc, ◌<◌, ◌≤◌, false, cond, eqb, List, [], ◌∷◌, length, get_or, set, replicate, Some, None, sym, refl, ap, ◌∙◌, ⊎_elim, add-one, arith}
+use Rattle.std.proofs.Common.{◌≡◌, ℕ, zero, suc, ◌<◌, ◌≤◌, false, cond, eqb, List, [], ◌∷◌, ◌++◌, length, take, drop, get_or, set, replicate, Some, None, sym, refl, ap, ◌∙◌, ⊎_elim, arith}
 use Rattle.std.proofs.lemmas.Bool.{cases_Bool, cond-true, cond-false, ne_eqb, true≢false}
 use Rattle.std.proofs.lemmas.Slice.Eq.{bytes_eq-Decides}
 use Rattle.std.specs.Str.{bytes_eq}
+use Rattle.std.proofs.lemmas.List.{take-replicate}
 use Rattle.letters.proofs.Named.{Full, Named}
 use Rattle.oil.specs.declared.table.NameRecord.{NameRecord}
-use Rattle.oil.specs.Table.{keyed, no_key, blank, find}
+use Rattle.oil.specs.Table.{key_of, no_key, blank, find}
 
 -- the bytes before the first zero
 pub strip : List ℕ → List ℕ
 strip [] = []
 strip (b ∷ bs) = cond (eqb b 0) [] (b ∷ strip bs)
 
-keyed_shift : (i : ℕ) (bs key : List ℕ) (x : ℕ) → keyed (suc i) bs (x ∷ key) ≡ x ∷ keyed i bs key
-keyed_shift i [] key x = refl
-keyed_shift i (b ∷ bs) key x =
-    ap (λ n. keyed n bs (x ∷ set key i b)) (add-one (suc i))
-    ∙ keyed_shift (suc i) bs (set key i b) x
-    ∙ ap (λ n. x ∷ keyed n bs (set key i b)) (sym (add-one i))
+-- a short name is followed by the end of the zeros
+filled : (n : List ℕ) (k : ℕ) → length n ≤ k → k ≤ 32 → n ++ drop (length n) (replicate k 0) ≡ take k (n ++ no_key)
+filled [] k l h = sym (take-replicate k 32 0 h)
+filled (b ∷ bs) zero l h = absurd (omega arith)
+filled (b ∷ bs) (suc k) l h = ap (λ r. b ∷ r) (filled bs k (omega arith) (omega arith))
+
+pub key_is : (n : List ℕ) → length n ≤ 32 → n ++ drop (length n) no_key ≡ key_of n
+key_is n l = filled n 32 l (omega arith)
 
 strip_zeros : (k : ℕ) → strip (replicate k 0) ≡ []
 unfolding strip
 strip_zeros zero = refl
 strip_zeros (suc k) = refl
 
-strip_keyed : (n : List ℕ) (k : ℕ) → Full n → length n ≤ k → strip (keyed 0 n (replicate k 0)) ≡ n
+strip_filled : (n : List ℕ) (k : ℕ) → Full n → length n ≤ k → k ≤ 32 → strip (take k (n ++ no_key)) ≡ n
 unfolding strip
-strip_keyed [] k f l = strip_zeros k
-strip_keyed (b ∷ bs) zero f l = absurd (omega arith)
-strip_keyed (b ∷ bs) (suc k) f l =
-    ap strip (keyed_shift 0 bs (replicate k 0) b)
-    ∙ cond-false (eqb b 0) [] (b ∷ strip (keyed 0 bs (replicate k 0))) (ne_eqb b 0 f.0)
-    ∙ ap (λ r. b ∷ r) (strip_keyed bs k f.1 (omega arith))
+strip_filled [] k f l h = ap strip (take-replicate k 32 0 h) ∙ strip_zeros k
+strip_filled (b ∷ bs) zero f l h = absurd (omega arith)
+strip_filled (b ∷ bs) (suc k) f l h = cond-false (eqb b 0) [] (b ∷ strip (take k (bs ++ no_key))) (ne_eqb b 0 f.0) ∙ ap (λ r. b ∷ r) (strip_filled bs k f.1 (omega arith) (omega arith))
 
-abbrev pub key_for : List ℕ → List ℕ
-key_for n = keyed 0 n no_key
+pub key_same : (n m : List ℕ) → Named n → Named m → key_of n ≡ key_of m → n ≡ m
+key_same n m h g e = sym (strip_filled n 32 h.full h.short (omega arith)) ∙ ap strip e ∙ strip_filled m 32 g.full g.short (omega arith)
 
-pub key_same : (n m : List ℕ) → Named n → Named m → key_for n ≡ key_for m → n ≡ m
-key_same n m h g e = sym (strip_keyed n 32 h.full h.short) ∙ ap strip e ∙ strip_keyed m 32 g.full g.short
-
-pub key_some : (n : List ℕ) → Named n → key_for n ≡ no_key → ⊥
+pub key_some : (n : List ℕ) → Named n → key_of n ≡ no_key → ⊥
 key_some n h e =
-    let z : n ≡ [] = sym (strip_keyed n 32 h.full h.short) ∙ ap strip e ∙ strip_zeros 32 in
+    let z : n ≡ [] = sym (strip_filled n 32 h.full h.short (omega arith)) ∙ ap strip e ∙ strip_zeros 32 in
     let l = ap length z in
     let s = h.some in
     omega arith
@@ -75,9 +72,9 @@ find_set (x ∷ xs) (suc j) r k l b f ne =
     (cases_Bool (bytes_eq x.name r.name))
 
 -- the keys of two names are the same exactly if the names are
-pub key_tests : (n m : List ℕ) → Named n → Named m → bytes_eq (key_for n) (key_for m) ≡ bytes_eq n m
+pub key_tests : (n m : List ℕ) → Named n → Named m → bytes_eq (key_of n) (key_of m) ≡ bytes_eq n m
 key_tests n m h g =
     ⊎_elim
-    (λ y. (bytes_eq-Decides (key_for n) (key_for m)).1 (ap key_for ((bytes_eq-Decides n m).0 y)) ∙ sym y)
-    (λ no. same_no (key_for n) (key_for m) (λ e. true≢false (sym ((bytes_eq-Decides n m).1 (key_same n m h g e)) ∙ no)) ∙ sym no)
+    (λ y. (bytes_eq-Decides (key_of n) (key_of m)).1 (ap key_of ((bytes_eq-Decides n m).0 y)) ∙ sym y)
+    (λ no. same_no (key_of n) (key_of m) (λ e. true≢false (sym ((bytes_eq-Decides n m).1 (key_same n m h g e)) ∙ no)) ∙ sym no)
     (cases_Bool (bytes_eq n m))

@@ -1,7 +1,6 @@
 -- A plan under construction.
-use Rattle.std.specs.Prelude.{◌≡◌, ℕ, ◌+◌, ◌^◌, ◌≤◌, true, cond, List, replicate, Ok, Err, Result, ◌==◌, bit_or, nat_lt, slice_index, slice_set}
+use Rattle.std.specs.Prelude.{◌≡◌, ℕ, ◌+◌, ◌^◌, cond, List, replicate, Ok, Err, Result, ◌==◌, bit_or, nat_lt, slice_index, slice_set}
 use Rattle.vectors.specs.Vectors.{in_vector}
-use Rattle.plan.specs.Rows.{Inside, EmptyFrom}
 use Rattle.grammar.specs.declared.item.Kind.{Kind}
 use Rattle.grammar.specs.declared.item.Kind.TheVariants as kind
 use Rattle.oil.specs.declared.fault.PlanCause.TheVariants as cause
@@ -12,10 +11,6 @@ use Rattle.oil.specs.Faults.{refusal}
 -- A draft, or a fault.
 abbrev pub Drafted : Type 0
 Drafted = Result Draft PlanFault
-
--- Every task of the one vector is in the other.
-abbrev pub Within : ℕ → ℕ → Type 0
-Within v w = (t : ℕ) → in_vector v t ≡ true → in_vector w t ≡ true
 
 -- A draft of nothing.
 abbrev pub empty_draft : Draft
@@ -43,20 +38,6 @@ prioritized d value place =
 -- A task is activated once.
 abbrev pub activated : Draft → ℕ → ℕ → Drafted
 activated d value place = cond (value == 1) (Ok d) (Err (refusal cause.WrongNumber place))
-
--- There are at most 64 tasks, 32 resources and 32 events.
-pub record Bounded (d : Draft) : Type 0 where
-  pub few_tasks : d.tasks ≤ 64
-  pub few_resources : d.resources ≤ 32
-  pub few_events : d.events ≤ 32
-
--- The rows lie in the declared tasks, and are empty beyond the counts.
-pub record SoundDraft (d : Draft) : Type 0 where
-  pub users_in : Inside d.users d.declared
-  pub registered_in : Inside d.registered d.declared
-  pub users_end : EmptyFrom d.users d.resources
-  pub registered_end : EmptyFrom d.registered d.events
-  pub current_in : Within d.current d.declared
 
 -- The draft with this many resources.
 abbrev pub with_resources : Draft → ℕ → Draft

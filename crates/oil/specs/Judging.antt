@@ -14,8 +14,7 @@ use Rattle.oil.specs.declared.table.Known.{Known}
 use Rattle.oil.specs.declared.fault.PlanCause.TheVariants as cause
 use Rattle.oil.specs.declared.fault.PlanFault.{PlanFault}
 use Rattle.oil.specs.declared.draft.Draft.{Draft}
-use Rattle.oil.specs.declared.reader.Progress.{Progress}
-use Rattle.oil.specs.declared.reader.Progress.TheVariants as progress
+use Rattle.oil.specs.Progress.{Progress, Done, More}
 use Rattle.oil.specs.Faults.{raised_plan, refusal}
 use Rattle.oil.specs.Draft.{Drafted, added, prioritized, activated, with_users, with_registered, grown, finished}
 
@@ -59,8 +58,8 @@ lift_plan (Err f) = Err (raised_plan f)
 
 -- A text that is read to its end, or how to go on.
 abbrev pub proceed : Item → Draft → Step → Progress
-proceed item.End d s = progress.Done d
-proceed i d s = progress.More d s.state s.pos
+proceed item.End d s = Done d
+proceed i d s = More d s.state s.pos
 
 -- One item read and judged.
 abbrev pub advanced : List ℕ → (List ℕ → Option Known) → Draft → State → ℕ → Result Progress PlanFault
@@ -69,5 +68,5 @@ advanced text look d s pos =
 
 -- What comes after a step.
 abbrev pub resume : {A : Type 0} → Progress → (Draft → A) → (Draft → State → ℕ → A) → A
-resume (progress.Done d) done more = done d
-resume (progress.More d s p) done more = more d s p
+resume (Done d) done more = done d
+resume (More d s p) done more = more d s p

@@ -8,3 +8,6 @@ pub mod Outcome
 pub mod Meaning
 pub mod First
 pub mod Positions
+pub mod Sketch
+pub mod Sketched
+pub mod Progress

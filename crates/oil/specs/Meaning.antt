@@ -1,5 +1,6 @@
 -- What a tree of objects means: which trees are well formed, and which plan each has.
-use Rattle.std.specs.Prelude.{◌≡◌, ℕ, zero, suc, ◌^◌, ◌<◌, ◌≤◌, true, cond, List, [], ◌∷◌, ◌++◌, length, Result, MatchResult, slice_index}
+use Rattle.std.specs.Prelude.{◌≡◌, ℕ, zero, suc, ◌^◌, ◌<◌, ◌≤◌, true, cond, List, [], ◌∷◌, ◌++◌, length, map, Option, Some, None, Result, MatchResult, slice_index}
+use Rattle.std.specs.List.{filter_map, flat_map}
 use Rattle.std.specs.Str.{bytes_eq}
 use Rattle.vectors.specs.Vectors.{in_vector}
 use Rattle.plan.specs.declared.record.Plan.{Plan}
@@ -27,38 +28,45 @@ name_of (resource n) = n
 name_of (event n) = n
 name_of (task n p a rs) = n
 
+-- The name of a resource.
+abbrev pub resource_name : Object → Option (List ℕ)
+resource_name (resource n) = Some n
+resource_name o = None
+
+-- The name of an event.
+abbrev pub event_name : Object → Option (List ℕ)
+event_name (event n) = Some n
+event_name o = None
+
+-- The priority of a task.
+abbrev pub priority : Object → Option ℕ
+priority (task n p a rs) = Some p
+priority o = None
+
+-- The activation of a task.
+abbrev pub activation : Object → Option ℕ
+activation (task n p a rs) = Some a
+activation o = None
+
 -- The names of all objects, in the order of the text.
 abbrev pub names_of : List Object → List (List ℕ)
-names_of [] = []
-names_of (o ∷ os) = name_of o ∷ names_of os
+names_of os = map name_of os
 
 -- The names of the resources, in the order of the text.
 abbrev pub resources_of : List Object → List (List ℕ)
-resources_of [] = []
-resources_of (resource n ∷ os) = n ∷ resources_of os
-resources_of (event n ∷ os) = resources_of os
-resources_of (task n p a rs ∷ os) = resources_of os
+resources_of os = filter_map resource_name os
 
 -- The names of the events, in the order of the text.
 abbrev pub events_of : List Object → List (List ℕ)
-events_of [] = []
-events_of (resource n ∷ os) = events_of os
-events_of (event n ∷ os) = n ∷ events_of os
-events_of (task n p a rs ∷ os) = events_of os
+events_of os = filter_map event_name os
 
 -- The priorities of the tasks, in the order of the text.
 abbrev pub priorities_of : List Object → List ℕ
-priorities_of [] = []
-priorities_of (resource n ∷ os) = priorities_of os
-priorities_of (event n ∷ os) = priorities_of os
-priorities_of (task n p a rs ∷ os) = p ∷ priorities_of os
+priorities_of os = filter_map priority os
 
 -- The activations of the tasks, in the order of the text.
 abbrev pub activations_of : List Object → List ℕ
-activations_of [] = []
-activations_of (resource n ∷ os) = activations_of os
-activations_of (event n ∷ os) = activations_of os
-activations_of (task n p a rs ∷ os) = a ∷ activations_of os
+activations_of os = filter_map activation os
 
 -- A reference names a resource or an event of the objects before.
 abbrev pub Earlier : List Object → Reference → Type 0
@@ -105,19 +113,23 @@ awaits_in n p [] = []
 awaits_in n p (uses m ∷ rs) = awaits_in n p rs
 awaits_in n p (awaits m ∷ rs) = cond (bytes_eq m n) (p ∷ awaits_in n p rs) (awaits_in n p rs)
 
+-- The task, once for each of its references to the resource n.
+abbrev pub uses_of : List ℕ → Object → List ℕ
+uses_of n (task m p a rs) = uses_in n p rs
+uses_of n o = []
+
+-- The task, once for each of its references to the event n.
+abbrev pub awaits_of : List ℕ → Object → List ℕ
+awaits_of n (task m p a rs) = awaits_in n p rs
+awaits_of n o = []
+
 -- The tasks that use the resource n.
 abbrev pub users_of : List ℕ → List Object → List ℕ
-users_of n [] = []
-users_of n (resource m ∷ os) = users_of n os
-users_of n (event m ∷ os) = users_of n os
-users_of n (task m p a rs ∷ os) = uses_in n p rs ++ users_of n os
+users_of n os = flat_map (uses_of n) os
 
 -- The tasks that are registered for the event n.
 abbrev pub registered_of : List ℕ → List Object → List ℕ
-registered_of n [] = []
-registered_of n (resource m ∷ os) = registered_of n os
-registered_of n (event m ∷ os) = registered_of n os
-registered_of n (task m p a rs ∷ os) = awaits_in n p rs ++ registered_of n os
+registered_of n os = flat_map (awaits_of n) os
 
 -- The 64-bit vector v holds exactly the tasks ps.
 pub record VectorOf (ps : List ℕ) (v : ℕ) : Type 0 where

@@ -12,15 +12,14 @@ use Rattle.grammar.specs.Items.{item_at, begun}
 use Rattle.oil.specs.declared.table.NameRecord.{NameRecord}
 use Rattle.oil.specs.declared.fault.PlanFault.{PlanFault}
 use Rattle.oil.specs.declared.draft.Draft.{Draft}
-use Rattle.oil.specs.declared.reader.Progress.{Progress}
-use Rattle.oil.specs.declared.reader.Progress.TheVariants as progress
-use Rattle.oil.specs.Table.{keyed, no_key, looked}
-use Rattle.oil.specs.Draft.{Drafted, empty_draft, Bounded, SoundDraft, next_number, used}
+use Rattle.oil.specs.Progress.{Progress}
+use Rattle.oil.specs.Table.{key_of, looked}
+use Rattle.oil.specs.Draft.{Drafted, empty_draft, next_number, used}
 use Rattle.oil.specs.Judging.{introduced, advanced, resume}
 
 -- The record of a new object.
 abbrev pub new_record : Draft → Kind → List ℕ → NameRecord
-new_record d k name = record { name = keyed 0 name no_key; holds = Some k; number = next_number d k }
+new_record d k name = record { name = key_of name; holds = Some k; number = next_number d k }
 
 -- The table after a declaration: a refused one leaves it.
 abbrev pub entered : List NameRecord → Draft → NameRecord → Drafted → List NameRecord
@@ -79,14 +78,7 @@ ItemIn text (item.Declares k t) = length (bytes_of text t) ≤ 32
 ItemIn text (item.Refers k t) = length (bytes_of text t) ≤ 32
 ItemIn text i = Unit {0}
 
--- Draft and table are as the next item needs them.
+-- The table is as the next item needs it.
 pub record Ready (d : Draft) (names : List NameRecord) : Type 0 where
   pub room : 128 ≤ length names
-  pub bounded : Bounded d
   pub sound : AllOk d names
-  pub vectors : SoundDraft d
-
--- The reading goes on further right, with draft and table ready.
-abbrev pub GoesOn : ℕ → ℕ → List NameRecord → Progress → Type 0
-GoesOn pos high names (progress.Done d) = Ready d names
-GoesOn pos high names (progress.More d s p) = (pos < p) × (p ≤ high) × Ready d names

@@ -1,5 +1,6 @@
 -- The table of names, record by record.
-use Rattle.std.specs.Prelude.{ℕ, ◌+◌, cond, List, [], ◌∷◌, replicate, Some, None, Option, slice_set}
+use Rattle.std.specs.Prelude.{ℕ, List, ◌++◌, replicate, take, Some, None, Option}
+use Rattle.std.specs.List.{find as first}
 use Rattle.std.specs.Str.{bytes_eq}
 use Rattle.grammar.specs.declared.item.Kind.{Kind}
 use Rattle.oil.specs.declared.table.Known.{Known}
@@ -9,10 +10,9 @@ use Rattle.oil.specs.declared.table.NameRecord.{NameRecord}
 abbrev pub no_key : List ℕ
 no_key = replicate 32 0
 
--- The bytes written over the key from place i on.
-abbrev pub keyed : ℕ → List ℕ → List ℕ → List ℕ
-keyed i [] key = key
-keyed i (b ∷ bs) key = keyed (i + 1) bs (slice_set key i b)
+-- The name filled up with zeros to 32 bytes.
+abbrev pub key_of : List ℕ → List ℕ
+key_of name = take 32 (name ++ no_key)
 
 -- An empty record.
 abbrev pub blank : NameRecord
@@ -20,8 +20,7 @@ blank = record { name = no_key; holds = None; number = 0 }
 
 -- The first record with this key.
 abbrev pub find : List NameRecord → List ℕ → Option NameRecord
-find [] key = None
-find (r ∷ rs) key = cond (bytes_eq r.name key) (Some r) (find rs key)
+find names key = first (λ r. bytes_eq r.name key) names
 
 -- What a record with this content stands for.
 abbrev pub meant : Option Kind → ℕ → Option Known
@@ -35,4 +34,4 @@ known_by (Some r) = meant r.holds r.number
 
 -- What a name stands for by the table.
 abbrev pub looked : List NameRecord → List ℕ → Option Known
-looked names = λ n. known_by (find names (keyed 0 n no_key))
+looked names = λ n. known_by (find names (key_of n))

@@ -4,6 +4,8 @@ ghost use Rattle.oil.specs.Faults.{raised_plan, refusal, number_of, layer_of, ex
 
 use grammar::fault::{GrammarCause, GrammarFault};
 use letters::fault::LettersCause;
+use std::error::Error;
+use std::fmt;
 
 // The layer of the reader that found a fault.
 #[derive(Clone, Copy, PartialEq, Debug)]
@@ -48,15 +50,15 @@ impl From<GrammarFault> for PlanFault {
     }
 }
 
-// A fault of the plan's own layer.
-pub fn refuse(cause: PlanCause, place: usize) -> PlanFault
-    ensures { result ≡ refusal cause place }
-{
-    PlanFault { cause, place }
-}
-
 impl PlanFault {
-    // The number of the fault, from 1 to 9.
+    // A fault of the plan's own layer.
+    pub fn new(cause: PlanCause, place: usize) -> PlanFault
+        ensures { result ≡ refusal cause place }
+    {
+        PlanFault { cause, place }
+    }
+
+    // The number of the fault, from 1 to 9, as the programs print it; a cause in a cause has no discriminant of its own.
     pub fn number(&self) -> u8
         ensures { result ≡ number_of self.now.cause }
     {
@@ -84,14 +86,14 @@ impl PlanFault {
         }
     }
 
-    // The byte of the text where the fault was found.
+    // The byte of the text where the fault was found, beside the number and the layer for callers that print the three.
     pub fn place(&self) -> usize
         ensures { result ≡ self.now.place }
     {
         self.place
     }
 
-    // What was wrong, in a few words.
+    // What was wrong, in a few words, as a text that stays: callers print it as bytes with no formatter.
     pub fn explain(&self) -> &'static str
         ensures { result.now ≡ explanation self.now.cause }
     {
@@ -106,3 +108,17 @@ impl PlanFault {
         }
     }
 }
+
+// The words of the cause; the place is told by the caller, as a line and a column.
+impl fmt::Display for PlanFault {
+    ghost use Rattle.std.specs.Prelude.{Some};
+    ghost use Rattle.oil.specs.Faults.{explanation};
+
+    ghost output = { λ f. Some (explanation f.cause) };
+
+    fn fmt<W: fmt::Write>(&self, f: &mut fmt::Formatter<W>) -> fmt::Result {
+        f.write_str(self.explain())
+    }
+}
+
+impl Error for PlanFault {}

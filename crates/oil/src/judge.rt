@@ -1,12 +1,12 @@
-// What an item does to the draft and to the table of names.
+// What an item does to the draft and to the table of names. The table is the caller's memory: a struct of both could
+// only borrow it, and each clause would name its two parts as it names them now.
 ghost use Rattle.std.specs.Prelude.{◌≡◌, ◌≤◌, length};
 ghost use Rattle.oil.specs.Table.{looked};
-ghost use Rattle.oil.specs.Draft.{Bounded};
 ghost use Rattle.oil.specs.Judging.{introduced, referred, judged};
 ghost use Rattle.oil.specs.Records.{AllOk, entered, new_record, noted, ItemIn, Ready};
 
-use crate::draft::{Draft, activate, add, finish, grow, next_number, prioritize};
-use crate::fault::{PlanCause, PlanFault, refuse};
+use crate::draft::Draft;
+use crate::fault::{PlanCause, PlanFault};
 use crate::table::{NameRecord, key, look_up};
 use grammar::item::{Item, Kind};
 use letters::token::bytes_of;
@@ -21,19 +21,17 @@ fn declare(
 ) -> Result<Draft, PlanFault>
     requires short { length name.now ≤ 32 }
     requires room { 128 ≤ length names.old }
-    requires bounded { Bounded draft }
     ensures value { result ≡ introduced (looked names.old) draft kind name.now place }
     ensures after { names.new ≡ entered names.old draft (new_record draft kind name.now) result }
 {
     if look_up(names, name).is_some() {
-        return Err(refuse(PlanCause::NameTaken, place));
+        return Err(PlanFault::new(PlanCause::NameTaken, place));
     }
-    let after = grow(draft, kind, place)?;
-    let used = usize::from(draft.tasks) + usize::from(draft.resources) + usize::from(draft.events);
-    names[used] = NameRecord {
+    let after = draft.grow(kind, place)?;
+    names[draft.used()] = NameRecord {
         name: key(name),
         holds: Some(kind),
-        number: next_number(draft, kind),
+        number: draft.next_number(kind),
     };
     Ok(after)
 }
@@ -48,25 +46,15 @@ fn refer(
 ) -> Result<Draft, PlanFault>
     requires short { length name.now ≤ 32 }
     requires sound { AllOk draft names.now }
-    requires bounded { Bounded draft }
     ensures value { result ≡ referred (looked names.now) draft kind name.now place }
 {
-    let fault = refuse(PlanCause::NotKnown, place);
+    let fault = PlanFault::new(PlanCause::NotKnown, place);
     let Some(record) = look_up(names, name) else {
         return Err(fault);
     };
     match (kind, record.kind) {
-        (Kind::Resource, Kind::Resource) => {
-            let users = add(draft.users, record.number, draft.current);
-            Ok(Draft { users, ..draft })
-        }
-        (Kind::Event, Kind::Event) => {
-            let registered = add(draft.registered, record.number, draft.current);
-            Ok(Draft {
-                registered,
-                ..draft
-            })
-        }
+        (Kind::Resource, Kind::Resource) => Ok(draft.add_user(record.number)),
+        (Kind::Event, Kind::Event) => Ok(draft.register(record.number)),
         _ => Err(fault),
     }
 }
@@ -91,10 +79,10 @@ pub(crate) fn judge(
             bytes_of(text, token),
             token.place,
         ),
-        Item::Priority(value, token) => prioritize(draft, value, token.place),
-        Item::Activation(value, token) => activate(draft, value, token.place),
+        Item::Priority(value, token) => draft.prioritize(value, token.place),
+        Item::Activation(value, token) => draft.activate(value, token.place),
         Item::Refers(kind, token) => refer(names, draft, kind, bytes_of(text, token), token.place),
         Item::Closes => Ok(draft),
-        Item::End => finish(draft, text.len()),
+        Item::End => draft.finish(text.len()),
     }
 }

@@ -21,11 +21,7 @@ fn line(front: &[u8]) -> usize
 fn column(front: &[u8]) -> usize
     ensures { result ≡ 1 + prefix_len in_line (reverse front.now) }
 {
-    let mut column = 1;
-    for byte in front {
-        column = if *byte == b'\n' { 1 } else { column + 1 };
-    }
-    column
+    1 + front.iter().rev().take_while(|b| **b != b'\n').count()
 }
 
 // The line and the column of a place in a text; a place beyond the end counts as the end.

@@ -1,60 +1,22 @@
 // Reads a plan text: item by item into a draft, and from a complete draft into the plan record.
-ghost use Rattle.std.specs.Prelude.{◌≡◌, ◌<◌, ◌≤◌, length, replicate, IfOk};
-ghost use Rattle.grammar.specs.Items.{item_at};
-ghost use Rattle.oil.specs.Table.{blank, looked};
-ghost use Rattle.oil.specs.Draft.{Bounded, SoundDraft};
-ghost use Rattle.oil.specs.Judging.{proceed, advanced};
-ghost use Rattle.oil.specs.Records.{Ready, noted_at, GoesOn, left_after};
+ghost use Rattle.std.specs.Prelude.{◌≡◌, ◌≤◌, length, replicate};
+ghost use Rattle.oil.specs.Table.{blank};
+ghost use Rattle.oil.specs.Records.{left_after};
 ghost use Rattle.oil.specs.Reading.{read_all, BoundFree};
 ghost use Rattle.oil.specs.Outcome.{outcome, table_after, PlanAfter};
 ghost use Rattle.oil.specs.Meaning.{Understood};
 ghost use Rattle.oil.specs.First.{LeftFree, RightFree};
 
-use crate::draft::{Draft, empty, plan_of};
-use crate::fault::{PlanCause, PlanFault, refuse};
+use crate::draft::{Draft, EVENTS, RESOURCES, TASKS};
+use crate::fault::{PlanCause, PlanFault};
 use crate::judge::judge;
-use crate::table::{NameRecord, clear};
-use grammar::item::{Item, State, Step};
+use crate::table::NameRecord;
+use grammar::item::Item;
 use grammar::parser::{begin, next_item};
 use plan::record::Plan;
 
-// How many records a table needs: one for each of 64 tasks, 32 resources and 32 events.
-const RECORDS: usize = 128;
-
-// A text that is read to its end, or how to go on.
-#[derive(Clone, Copy)]
-pub(crate) enum Progress {
-    Done(Draft),
-    More(Draft, State, usize),
-}
-
-// How to go on after a step that was accepted.
-fn carry_on(draft: Draft, step: Step) -> Progress
-    ensures { result ≡ proceed step.item draft step }
-{
-    match step.item {
-        Item::End => Progress::Done(draft),
-        _ => Progress::More(draft, step.state, step.pos),
-    }
-}
-
-// Reads an item and judges it.
-fn advance(
-    text: &[u8],
-    names: &mut [NameRecord],
-    draft: Draft,
-    state: State,
-    pos: usize,
-) -> Result<Progress, PlanFault>
-    requires { Ready draft names.old }
-    ensures value { result ≡ advanced text.now (looked names.old) draft state pos }
-    ensures after { names.new ≡ noted_at text.now names.old draft (item_at text.now state pos) }
-    ensures onward { IfOk result (λ p. GoesOn pos (length text.now) names.new p) }
-{
-    let step = next_item(text, state, pos)?;
-    let after = judge(text, names, draft, step.item)?;
-    Ok(carry_on(after, step))
-}
+// How many records a table needs: one for each task, resource and event.
+const RECORDS: usize = TASKS as usize + RESOURCES as usize + EVENTS as usize;
 
 // Reads a whole text, with an empty table.
 fn gather(text: &[u8], names: &mut [NameRecord]) -> Result<Draft, PlanFault>
@@ -62,20 +24,18 @@ fn gather(text: &[u8], names: &mut [NameRecord]) -> Result<Draft, PlanFault>
     requires room { 128 ≤ length names.old }
     ensures value { result ≡ read_all text.now }
     ensures after { names.new ≡ left_after text.now names.old }
-    ensures sound { IfOk result (λ d. Bounded d × SoundDraft d) }
 {
     let mut state = begin(text)?;
-    let mut draft = empty();
+    let mut draft = Draft::empty();
     let mut pos = 0;
     loop {
-        match advance(text, names, draft, state, pos)? {
-            Progress::Done(done) => return Ok(done),
-            Progress::More(after, next, at) => {
-                draft = after;
-                state = next;
-                pos = at;
-            }
+        let step = next_item(text, state, pos)?;
+        draft = judge(text, names, draft, step.item)?;
+        if let Item::End = step.item {
+            return Ok(draft);
         }
+        state = step.state;
+        pos = step.pos;
     }
 }
 
@@ -97,12 +57,12 @@ pub fn read(text: &[u8], names: &mut [NameRecord], plan: &mut Plan) -> Result<()
     ensures nothing_right { RightFree text.now (length names.old) result }
 {
     if names.len() < RECORDS {
-        return Err(refuse(PlanCause::SmallTable, 0));
+        return Err(PlanFault::new(PlanCause::SmallTable, 0));
     }
-    clear(names);
+    names.fill(NameRecord::empty());
     let gathered = gather(text, names);
-    clear(names);
+    names.fill(NameRecord::empty());
     let draft = gathered?;
-    *plan = plan_of(draft);
+    *plan = Plan::from(draft);
     Ok(())
 }

@@ -1,7 +1,7 @@
 // The table of the names that are declared, in the caller's memory.
 ghost use Rattle.std.specs.Prelude.{◌≡◌, ◌≤◌, length, replicate};
 ghost use Rattle.std.specs.Str.{bytes_eq};
-ghost use Rattle.oil.specs.Table.{keyed, no_key, blank, find, meant, looked};
+ghost use Rattle.oil.specs.Table.{key_of, blank, meant, looked};
 
 use grammar::item::Kind;
 
@@ -32,60 +32,39 @@ impl NameRecord {
             number: 0,
         }
     }
+
+    // What the name of the record stands for: nothing where the record is empty.
+    fn known(self) -> Option<Known>
+        ensures { result ≡ meant self.holds self.number }
+    {
+        self.holds.map(|kind| Known {
+            kind,
+            number: self.number,
+        })
+    }
 }
 
 // The name filled up with zeros.
 pub(crate) fn key(name: &[u8]) -> [u8; 32]
     requires { length name.now ≤ 32 }
-    ensures { result ≡ keyed 0 name.now no_key }
+    ensures { result ≡ key_of name.now }
 {
     let mut all = [0; 32];
-    for (i, byte) in name.iter().enumerate() {
-        all[i] = *byte;
-    }
+    all[..name.len()].copy_from_slice(name);
     all
 }
 
-// Are both keys the same?
-fn same_key(a: &[u8; 32], b: &[u8; 32]) -> bool
-    ensures { result ≡ bytes_eq a.now b.now }
-{
-    a == b
-}
-
-// The first record of this name.
-fn find_name(names: &[NameRecord], name: [u8; 32]) -> Option<NameRecord>
-    ensures { result ≡ find names.now name }
-{
-    for record in names {
-        if same_key(&record.name, &name) {
-            return Some(*record);
-        }
-    }
-    None
-}
-
-// What the name of a record stands for: nothing where the record is empty.
-fn stands_for(entry: NameRecord) -> Option<Known>
-    ensures { result ≡ meant entry.holds entry.number }
-{
-    let number = entry.number;
-    entry.holds.map(|kind| Known { kind, number })
-}
-
-// What a name stands for, if it is declared.
+// What a name stands for, if it is declared. A function of its own that goes over copies of the records: LLVM then makes
+// the comparison of two names part of the loop, and leaves it a call otherwise.
+#[inline(never)]
 pub(crate) fn look_up(names: &[NameRecord], name: &[u8]) -> Option<Known>
     requires { length name.now ≤ 32 }
     ensures { result ≡ looked names.now name.now }
 {
-    find_name(names, key(name)).and_then(stands_for)
-}
-
-// Empties every record.
-pub(crate) fn clear(names: &mut [NameRecord])
-    ensures { names.new ≡ replicate (length names.old) blank }
-{
-    for record in names.iter_mut() {
-        *record = NameRecord::empty();
-    }
+    let key = key(name);
+    names
+        .iter()
+        .copied()
+        .find(|record| record.name == key)
+        .and_then(NameRecord::known)
 }

@@ -1,5 +1,5 @@
 // The limits of a text, each at its last good value and at the next.
-use crate::texts::{HEAD, TASK, YARD, joined, objects, repeated, tasks};
+use crate::texts::{HEAD, TASK, YARD, objects, tasks};
 use crate::verdicts::fault;
 use oil::reader::read;
 use oil::table::NameRecord;
@@ -8,8 +8,8 @@ use std::alloc::Global;
 use std::test::Fail;
 
 // Reads a text of a head, some objects, a part and an end.
-fn inside<'a>(heap: Global, objects: &'a str, part: &'a str) -> Result<(u8, usize), Fail> {
-    let text = joined(heap, &[HEAD, objects, part, "};"])?;
+fn inside<'a>(heap: Global, objects: &'a str, part: &'a str) -> Result<Option<(u8, usize)>, Fail> {
+    let text = [HEAD, objects, part, "};"].concat(heap)?;
     Ok(fault(text.as_str()))
 }
 
@@ -18,20 +18,16 @@ fn priorities(rt: HostRuntime) -> Result<(), Fail> {
     let front = "TASK t{PRIORITY=";
     let back = ";SCHEDULE=FULL;ACTIVATION=1;AUTOSTART=FALSE;};";
     let cases = [
-        ("63", 0),
-        ("64", 6),
-        ("000000063", 0),
-        ("0000000063", 2),
-        ("999999999", 6),
+        ("63", None),
+        ("64", Some(6)),
+        ("000000063", None),
+        ("0000000063", Some(2)),
+        ("999999999", Some(6)),
     ];
     for (number, code) in cases {
-        let text = joined(rt.alloc(), &[HEAD, front, number, back, "};"])?;
-        let place = if code == 0 {
-            0
-        } else {
-            HEAD.len() + front.len()
-        };
-        assert_eq!(rt; fault(text.as_str()), (code, place), "{}", number);
+        let text = [HEAD, front, number, back, "};"].concat(rt.alloc())?;
+        let expected = code.map(|code| (code, HEAD.len() + front.len()));
+        assert_eq!(rt; fault(text.as_str()), expected, "{}", number);
     }
     Ok(())
 }
@@ -41,26 +37,26 @@ fn counts(rt: HostRuntime) -> Result<(), Fail> {
     let heap = rt.alloc();
     let body = "{RESOURCEPROPERTY=STANDARD;};";
     let all = objects(heap, "RESOURCE", body, 32)?;
-    assert_eq!(rt; inside(heap, all.as_str(), TASK)?, (0, 0));
+    assert_eq!(rt; inside(heap, all.as_str(), TASK)?, None);
     assert_eq!(rt;
         inside(heap, all.as_str(), "RESOURCE x{")?,
-        (7, HEAD.len() + all.len() + 9)
+        Some((7, HEAD.len() + all.len() + 9))
     );
     assert_eq!(rt;
         inside(heap, all.as_str(), "RESOURCE RESOURCE7{")?,
-        (5, HEAD.len() + all.len() + 9)
+        Some((5, HEAD.len() + all.len() + 9))
     );
     let all = objects(heap, "EVENT", "{MASK=AUTO;};", 32)?;
-    assert_eq!(rt; inside(heap, all.as_str(), TASK)?, (0, 0));
+    assert_eq!(rt; inside(heap, all.as_str(), TASK)?, None);
     assert_eq!(rt;
         inside(heap, all.as_str(), "EVENT x{")?,
-        (7, HEAD.len() + all.len() + 6)
+        Some((7, HEAD.len() + all.len() + 6))
     );
     let all = tasks(heap, 64)?;
-    assert_eq!(rt; inside(heap, all.as_str(), "")?, (0, 0));
+    assert_eq!(rt; inside(heap, all.as_str(), "")?, None);
     assert_eq!(rt;
         inside(heap, all.as_str(), "TASK x{")?,
-        (7, HEAD.len() + all.len() + 5)
+        Some((7, HEAD.len() + all.len() + 5))
     );
     Ok(())
 }
@@ -68,20 +64,20 @@ fn counts(rt: HostRuntime) -> Result<(), Fail> {
 #[test]
 fn widths(rt: HostRuntime) -> Result<(), Fail> {
     let heap = rt.alloc();
-    let name = repeated(heap, "n", 32)?;
-    let event = joined(heap, &["EVENT ", name.as_str()])?;
-    let longer = joined(heap, &[event.as_str(), "n"])?;
-    let all = joined(heap, &[event.as_str(), "{MASK=AUTO;};", TASK])?;
-    assert_eq!(rt; inside(heap, all.as_str(), "")?, (0, 0));
+    let name = "n".repeat(heap, 32)?;
+    let event = ["EVENT ", name.as_str()].concat(heap)?;
+    let longer = [event.as_str(), "n"].concat(heap)?;
+    let all = [event.as_str(), "{MASK=AUTO;};", TASK].concat(heap)?;
+    assert_eq!(rt; inside(heap, all.as_str(), "")?, None);
     assert_eq!(rt;
         inside(heap, longer.as_str(), "{MASK=AUTO;};")?,
-        (2, HEAD.len() + 6)
+        Some((2, HEAD.len() + 6))
     );
-    let quoted = joined(heap, &["OIL_VERSION=\"", name.as_str()])?;
-    let text = joined(heap, &[quoted.as_str(), "\";"])?;
-    assert_eq!(rt; fault(text.as_str()), (3, 12));
-    let text = joined(heap, &[quoted.as_str(), "n\";"])?;
-    assert_eq!(rt; fault(text.as_str()), (2, 12));
+    let quoted = ["OIL_VERSION=\"", name.as_str()].concat(heap)?;
+    let text = [quoted.as_str(), "\";"].concat(heap)?;
+    assert_eq!(rt; fault(text.as_str()), Some((3, 12)));
+    let text = [quoted.as_str(), "n\";"].concat(heap)?;
+    assert_eq!(rt; fault(text.as_str()), Some((2, 12)));
     Ok(())
 }
 
@@ -89,12 +85,12 @@ fn widths(rt: HostRuntime) -> Result<(), Fail> {
 fn lengths(rt: HostRuntime) -> Result<(), Fail> {
     let heap = rt.alloc();
     assert!(rt; YARD.len() < 32768);
-    let blanks = repeated(heap, " ", 32768 - YARD.len())?;
-    let text = joined(heap, &[blanks.as_str(), YARD])?;
+    let blanks = " ".repeat(heap, 32768 - YARD.len())?;
+    let text = [blanks.as_str(), YARD].concat(heap)?;
     assert_eq!(rt; text.len(), 32768);
-    assert_eq!(rt; fault(text.as_str()), (0, 0));
-    let text = joined(heap, &[text.as_str(), " "])?;
-    assert_eq!(rt; fault(text.as_str()), (1, 32768));
+    assert_eq!(rt; fault(text.as_str()), None);
+    let text = [text.as_str(), " "].concat(heap)?;
+    assert_eq!(rt; fault(text.as_str()), Some((1, 32768)));
     Ok(())
 }
 
@@ -105,9 +101,8 @@ fn tables(rt: HostRuntime) -> Result<(), Fail> {
     used.number = 7;
     let mut plan = Plan::unfilled();
     let mut small = [used; 127];
-    let Err(fault) = read(YARD.as_bytes(), &mut small, &mut plan) else {
-        return Err(Fail::new("accepted"));
-    };
+    let refused = read(YARD.as_bytes(), &mut small, &mut plan);
+    let fault = refused.err().ok_or_else(|| Fail::new("accepted"))?;
     assert_eq!(rt; fault.number(), 9);
     assert_eq!(rt; fault.place(), 0);
     assert_eq!(rt; small[126], used);

@@ -1,5 +1,5 @@
 // Places as lines and columns, and faults in words.
-use crate::verdicts::verdict;
+use crate::verdicts::refused;
 use oil::position::{Position, locate};
 use std::test::Fail;
 
@@ -30,10 +30,10 @@ fn words(rt: HostRuntime) -> Result<(), Fail> {
         ("OIL_VERSION=\"2.5\";CPU c{};", "the text declares no task"),
     ];
     for (text, words) in cases {
-        let Err(fault) = verdict(text) else {
-            return Err(Fail::new("accepted"));
-        };
+        let fault = refused(text)?;
         assert_eq!(rt; fault.explain(), words);
+        let printed = format!(in rt.alloc(); "{fault}")?;
+        assert_eq!(rt; printed.as_str(), words);
     }
     Ok(())
 }

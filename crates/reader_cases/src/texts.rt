@@ -14,24 +14,6 @@ pub const HEAD: &str = "OIL_VERSION=\"2.5\";CPU c{";
 
 pub const TASK: &str = "TASK t{PRIORITY=1;SCHEDULE=FULL;ACTIVATION=1;AUTOSTART=FALSE;};";
 
-// A text of several parts, one after another.
-pub(crate) fn joined(heap: Global, parts: &[&str]) -> Result<String, AllocError> {
-    let mut all = String::new(heap);
-    for part in parts {
-        all.push_str(part)?;
-    }
-    Ok(all)
-}
-
-// A text of the same part many times.
-pub(crate) fn repeated(heap: Global, part: &str, times: usize) -> Result<String, AllocError> {
-    let mut all = String::new(heap);
-    for _ in 0..times {
-        all.push_str(part)?;
-    }
-    Ok(all)
-}
-
 // Objects r0, r1 .. of a kind of object whose body is the same for all.
 pub(crate) fn objects(
     heap: Global,

@@ -1,5 +1,5 @@
 // Accepted texts with their plans, and each fault at its place.
-use crate::texts::{HEAD, TASK, YARD, joined};
+use crate::texts::{HEAD, TASK, YARD};
 use oil::fault::{Layer, PlanFault};
 use oil::reader::read;
 use oil::table::NameRecord;
@@ -14,19 +14,26 @@ pub(crate) fn verdict(text: &str) -> Result<Plan, PlanFault> {
     Ok(plan)
 }
 
-// The number and the place of the fault of a text, or 0 and 0.
-pub(crate) fn fault(text: &str) -> (u8, usize) {
-    match verdict(text) {
-        Ok(_) => (0, 0),
-        Err(fault) => (fault.number(), fault.place()),
-    }
+// The plan of a text that is accepted.
+fn accepted(text: &str) -> Result<Plan, Fail> {
+    verdict(text).map_err(|_| Fail::new("refused"))
+}
+
+// The fault of a text that is refused.
+pub(crate) fn refused(text: &str) -> Result<PlanFault, Fail> {
+    verdict(text).err().ok_or_else(|| Fail::new("accepted"))
+}
+
+// The number and the place of the fault of a text, if it has one.
+pub(crate) fn fault(text: &str) -> Option<(u8, usize)> {
+    verdict(text)
+        .err()
+        .map(|fault| (fault.number(), fault.place()))
 }
 
 #[test]
 fn yard(rt: HostRuntime) -> Result<(), Fail> {
-    let Ok(plan) = verdict(YARD) else {
-        return Err(Fail::new("refused"));
-    };
+    let plan = accepted(YARD)?;
     assert_eq!(rt; plan.declared, 0xa4);
     assert_eq!(rt; plan.resources, 1);
     assert_eq!(rt; plan.events, 0);
@@ -40,19 +47,15 @@ fn yard(rt: HostRuntime) -> Result<(), Fail> {
 // A keyword may name an object, and an object may be referred to twice.
 #[test]
 fn keywords_as_names(rt: HostRuntime) -> Result<(), Fail> {
-    let text = joined(
-        rt.alloc(),
-        &[
-            "OIL_VERSION=\"2.5\";CPU CPU{",
-            "RESOURCE RESOURCE{RESOURCEPROPERTY=STANDARD;};EVENT EVENT{MASK=AUTO;};EVENT MASK{MASK=AUTO;};",
-            "TASK TASK{PRIORITY=63;SCHEDULE=FULL;ACTIVATION=1;AUTOSTART=FALSE;",
-            "EVENT=MASK;RESOURCE=RESOURCE;RESOURCE=RESOURCE;};",
-            "};//",
-        ],
-    )?;
-    let Ok(plan) = verdict(text.as_str()) else {
-        return Err(Fail::new("refused"));
-    };
+    let text = [
+        "OIL_VERSION=\"2.5\";CPU CPU{",
+        "RESOURCE RESOURCE{RESOURCEPROPERTY=STANDARD;};EVENT EVENT{MASK=AUTO;};EVENT MASK{MASK=AUTO;};",
+        "TASK TASK{PRIORITY=63;SCHEDULE=FULL;ACTIVATION=1;AUTOSTART=FALSE;",
+        "EVENT=MASK;RESOURCE=RESOURCE;RESOURCE=RESOURCE;};",
+        "};//",
+    ]
+    .concat(rt.alloc())?;
+    let plan = accepted(text.as_str())?;
     assert_eq!(rt; plan.declared, 1 << 63);
     assert_eq!(rt; plan.events, 2);
     let (users, registered) = (plan.users, plan.registered);
@@ -76,14 +79,14 @@ fn whole_texts(rt: HostRuntime) {
         ("OIL_VERSION=\"2.5\";CPU c{TASK", 3, 28),
     ];
     for (text, number, place) in cases {
-        assert_eq!(rt; fault(text), (number, place), "{}", text);
+        assert_eq!(rt; fault(text), Some((number, place)), "{}", text);
     }
 }
 
 // What stands inside the CPU, and the fault's place from there.
 #[test]
 fn inner_texts(rt: HostRuntime) -> Result<(), Fail> {
-    let cases = [
+    let cases: [(&str, u8, u8); 8] = [
         (
             "EVENT e{MASK=AUTO;};TASK t{PRIORITY=1;SCHEDULE=FULL;ACTIVATION=1;AUTOSTART=FALSE;RESOURCE=e;",
             4,
@@ -106,16 +109,19 @@ fn inner_texts(rt: HostRuntime) -> Result<(), Fail> {
         ("EVENT 1{", 3, 6),
     ];
     for (text, number, place) in cases {
-        let all = joined(rt.alloc(), &[HEAD, text])?;
+        let all = [HEAD, text].concat(rt.alloc())?;
         assert_eq!(rt;
             fault(all.as_str()),
-            (number, HEAD.len().saturating_add(place)),
+            Some((number, HEAD.len() + usize::from(place))),
             "{}",
             text
         );
     }
-    let twice = joined(rt.alloc(), &[HEAD, TASK, "TASK u{PRIORITY=1;"])?;
-    assert_eq!(rt; fault(twice.as_str()), (6, HEAD.len() + TASK.len() + 16));
+    let twice = [HEAD, TASK, "TASK u{PRIORITY=1;"].concat(rt.alloc())?;
+    assert_eq!(rt;
+        fault(twice.as_str()),
+        Some((6, HEAD.len() + TASK.len() + 16))
+    );
     Ok(())
 }
 
@@ -130,7 +136,7 @@ fn prefixes(rt: HostRuntime) -> Result<(), Fail> {
         let Err(fault) = read(&text[0..n], &mut names, &mut plan) else {
             return Err(Fail::new("accepted"));
         };
-        assert!(rt; fault.number() == 3 || fault.number() == 2 || fault.number() == 4);
+        assert!(rt; matches!(fault.number(), 2..=4));
         assert!(rt; fault.place() <= n);
         assert_eq!(rt; plan.declared, 0);
     }
@@ -145,10 +151,7 @@ fn layers(rt: HostRuntime) -> Result<(), Fail> {
         ("OIL_VERSION=\"2.5\";CPU c{};", Layer::Plan),
     ];
     for (text, layer) in cases {
-        let Err(fault) = verdict(text) else {
-            return Err(Fail::new("accepted"));
-        };
-        assert_eq!(rt; fault.layer(), layer);
+        assert_eq!(rt; refused(text)?.layer(), layer);
     }
     Ok(())
 }

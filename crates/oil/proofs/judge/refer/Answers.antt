@@ -1,13 +1,8 @@
-use Rattle.std.proofs.Common.{arith}
 use Rattle.oil.proofs.Tables.{resource_low, event_low}
 use Rattle.oil.proofs.judge.refer.Goals as goal
 
-pub add-users-requires : goal.add-users-requires
-add-users-requires c =
-    let low = resource_low c.args.draft c.args.names.now c.args.name.now c.in-Some.record c.requires.sound c.in-Some.ensures c.in-Resource-Resource.is-1 in
-    omega arith
+pub add_user-requires : goal.add_user-requires
+add_user-requires c = resource_low c.args.draft c.args.names.now c.args.name.now c.in-Some.record c.requires.sound c.in-Some.ensures c.in-Resource-Resource.is-1
 
-pub add-registered-requires : goal.add-registered-requires
-add-registered-requires c =
-    let low = event_low c.args.draft c.args.names.now c.args.name.now c.in-Some.record c.requires.sound c.in-Some.ensures c.in-Event-Event.is-1 in
-    omega arith
+pub register-requires : goal.register-requires
+register-requires c = event_low c.args.draft c.args.names.now c.args.name.now c.in-Some.record c.requires.sound c.in-Some.ensures c.in-Event-Event.is-1

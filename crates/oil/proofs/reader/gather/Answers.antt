@@ -1,38 +1,53 @@
-use Rattle.std.proofs.Common.{IfOk, Err, sym, ap, ◌∙◌, subst, rules}
+use Rattle.std.proofs.Common.{◌≡◌, Err, sym, ◌∙◌, subst, arith, rules}
+use Rattle.oil.specs.Faults.{raised_plan}
 use Rattle.oil.specs.Reading.{read_all}
-use Rattle.oil.specs.Records.{Ready, left_after}
-use Rattle.oil.specs.Draft.{Bounded, SoundDraft}
-use Rattle.oil.proofs.Runs.{Going, start, going_done, going_fault, going_more}
-use Rattle.std.proofs.lemmas.Result.{err_from_is_err_and}
+use Rattle.oil.specs.Records.{left_after}
+use Rattle.oil.proofs.Runs.{Going, start, going_in, going_unread, going_refused, going_end, going_on}
 use Rattle.oil.proofs.reader.gather.Goals as goal
 
-pub loop-done-init : goal.loop-done-init
-loop-done-init c =
+pub loop-step-init : goal.loop-step-init
+loop-step-init c =
     let text = c.args.text.now in
     let names = c.args.names.now in
     let s = c.in_ok-state.state in
     subst (λ d. Going text (read_all text) (left_after text names) names d s 0) (sym c.empty-draft.ensures)
     (start text names s (sym c.in_ok-state.ensures) c.requires.blank c.requires.room)
 
-pub returns-in_err-done : goal.returns-in_err-done
-returns-in_err-done c =
-    let p = err_from_is_err_and c.from_residual-in_err-done.result c.from_residual-in_err-done.ensures.1 in
-    let x = going_fault c.loop-done.invariant c.in_err-done.field-0.0 c.advance.new.names c.in_err-done.ensures.value c.in_err-done.ensures.after in
-    record {
-      value = p.1 ∙ ap Err p.2 ∙ x.0;
-      after = x.1;
-      sound = subst (λ r. IfOk r (λ d. Bounded d × SoundDraft d)) (sym p.1) tt;
-    }
+pub returns-in_err-step-clause-value : goal.returns-in_err-step-clause-value
+returns-in_err-step-clause-value c =
+    let is : c.from_residual-in_err-step.result ≡ Err (raised_plan c.in_err-step.field-0.0) = search rules in
+    is ∙ (going_unread c.loop-step.invariant c.in_err-step.field-0.0 c.in_err-step.ensures).0
 
-pub returns-in-Done : goal.returns-in-Done
-returns-in-Done c =
-    let on : Ready c.in-Done.done c.advance.new.names = search rules in
-    let x = going_done c.loop-done.invariant c.in-Done.done c.advance.new.names (search rules) (search rules) in
-    record {
-      value = x.0;
-      after = x.1;
-      sound = (on.bounded, on.vectors);
-    }
+pub returns-in_err-step-clause-after : goal.returns-in_err-step-clause-after
+returns-in_err-step-clause-after c = (going_unread c.loop-step.invariant c.in_err-step.field-0.0 c.in_err-step.ensures).1
 
-pub loop-done-preserved : goal.loop-done-preserved
-loop-done-preserved c = going_more c.loop-done.invariant c.in-More.after c.in-More.next c.in-More.at c.advance.new.names (search rules) (search rules) c.advance.ensures.after
+pub judge-requires-clause-within : goal.judge-requires-clause-within
+judge-requires-clause-within c = going_in c.loop-step.invariant c.in_ok-step.step c.in_ok-step.ensures
+
+pub returns-in_err-draft-clause-value : goal.returns-in_err-draft-clause-value
+returns-in_err-draft-clause-value c =
+    let is : c.from_residual-in_err-draft.result ≡ Err c.in_err-draft.field-0.0 = search rules in
+    is ∙ (going_refused c.loop-step.invariant c.in_ok-step.step c.in_ok-step.ensures c.judge.new.names c.in_err-draft.ensures.after c.in_err-draft.field-0.0 c.in_err-draft.ensures.value).0
+
+pub returns-in_err-draft-clause-after : goal.returns-in_err-draft-clause-after
+returns-in_err-draft-clause-after c =
+    (going_refused c.loop-step.invariant c.in_ok-step.step c.in_ok-step.ensures c.judge.new.names c.in_err-draft.ensures.after c.in_err-draft.field-0.0 c.in_err-draft.ensures.value).1
+
+pub returns-in-End-clause-value : goal.returns-in-End-clause-value
+returns-in-End-clause-value c =
+    (going_end c.loop-step.invariant c.in_ok-step.step c.in_ok-step.ensures c.judge.new.names c.in_ok-draft.ensures.after c.in_ok-draft.draft c.in_ok-draft.ensures.value c.in-End.is).0
+
+pub returns-in-End-clause-after : goal.returns-in-End-clause-after
+returns-in-End-clause-after c =
+    (going_end c.loop-step.invariant c.in_ok-step.step c.in_ok-step.ensures c.judge.new.names c.in_ok-draft.ensures.after c.in_ok-draft.draft c.in_ok-draft.ensures.value c.in-End.is).1
+
+pub loop-step-smaller : goal.loop-step-smaller
+loop-step-smaller c =
+    let on = going_on c.loop-step.invariant c.in_ok-step.step c.in_ok-step.ensures c.judge.new.names c.in_ok-draft.ensures.after c.in_ok-draft.draft c.in_ok-draft.ensures.value c.in_default.not-End in
+    let further = on.1 in
+    let within = on.2 in
+    omega arith
+
+pub loop-step-preserved : goal.loop-step-preserved
+loop-step-preserved c =
+    (going_on c.loop-step.invariant c.in_ok-step.step c.in_ok-step.ensures c.judge.new.names c.in_ok-draft.ensures.after c.in_ok-draft.draft c.in_ok-draft.ensures.value c.in_default.not-End).0

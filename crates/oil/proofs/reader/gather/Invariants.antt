@@ -4,8 +4,8 @@ use Rattle.oil.specs.Records.{left_after}
 use Rattle.oil.proofs.Runs.{Going}
 use Rattle.oil.proofs.reader.gather.Given as goal
 
-abbrev pub invariant-loop-done : goal.invariant-loop-done
-invariant-loop-done l = Going l.text (read_all l.text) (left_after l.text l.initial.names) l.names l.draft l.state l.pos
+abbrev pub invariant-loop-step : goal.invariant-loop-step
+invariant-loop-step l = Going l.text (read_all l.text) (left_after l.text l.initial.names) l.names l.draft l.state l.pos
 
-abbrev pub decreases-loop-done : goal.decreases-loop-done
-decreases-loop-done l = length l.text - l.pos
+abbrev pub decreases-loop-step : goal.decreases-loop-step
+decreases-loop-step l = length l.text - l.pos

@@ -22,7 +22,7 @@ returns-in_err-draft-clause-nothing_right c = right_free c.args.text.now (length
 
 pub returns-clause-meaning : goal.returns-clause-meaning
 returns-clause-meaning c =
-    understood_by c.args.text.now (length c.args.names.now) c.args.plan.now c.plan_of.result (Ok tt) (search rules) (search rules)
+    understood_by c.args.text.now (length c.args.names.now) c.args.plan.now c.from.result (Ok tt) (search rules) (search rules)
 
 pub returns-clause-bound : goal.returns-clause-bound
 returns-clause-bound c = bound_free c.args.text.now
