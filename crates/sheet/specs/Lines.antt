@@ -9,7 +9,7 @@ use Rattle.texts.specs.declared.outcomes.Report.{Report}
 use Rattle.texts.specs.declared.sheets.ShownCall.TheVariants as shown
 use Rattle.texts.specs.Sheets.{sheet_line}
 use Rattle.transcripts.specs.Reports.{report_with}
-use Rattle.sheet.specs.declared.entries.Entry.{Entry}
+use Rattle.plan.specs.declared.entry.Entry.{Entry}
 
 -- What a call on the machine m tells.
 abbrev pub told_of : Call → Machine → Report

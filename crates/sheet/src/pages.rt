@@ -18,7 +18,7 @@ fn push_table(heap: Global, out: &mut Vec<u8>, plan: &Plan) -> Result<(), AllocE
     ensures { OnOk result (out.new.items ≡ out.old.items ++ sheet_lines plan.now (entries_of plan.now)) }
 {
     let all = entries(heap, plan)?;
-    push_entries(heap, out, plan, all.as_slice())
+    push_entries(out, plan, all.as_slice())
 }
 
 // Adds what follows the header, for what a plan text came to.
