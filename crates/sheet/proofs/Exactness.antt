@@ -30,7 +30,7 @@ one_ordered : (b : Bool) (e : Entry) → Ordered (cond b (e ∷ []) [])
 one_ordered true e = ((λ y i. absurd i), tt)
 one_ordered false e = tt
 
-abbrev made_of : ℕ → ℕ → ℕ → Entry
+abbrev pub made_of : ℕ → ℕ → ℕ → Entry
 made_of l t r = record { low = l; high = t; resource = r }
 
 -- what stands in each part

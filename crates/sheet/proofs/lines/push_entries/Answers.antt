@@ -9,8 +9,8 @@ push_entry-requires c = in_table c.args.plan.now c.args.entries.now c.loop-e.e-i
 pub loop-e-preserved : goal.loop-e-preserved
 loop-e-preserved c =
     lines_next c.args.plan.now c.args.entries.now c.loop-e.e-index _ (vec_items c.args.out.now) (vec_items c.loop-e.out) (vec_items c.push_entry.new.out)
-    c.loop-e-test.true c.loop-e.e-indexnvariant c.in_ok-push_entry.ensures
+    c.loop-e-test.true c.loop-e.invariant c.in_ok-push_entry.ensures
 
 pub returns : goal.returns
 returns c =
-    c.loop-e.e-indexnvariant ∙ ap (λ es. vec_items c.args.out.now ++ sheet_lines c.args.plan.now es) (take_all c.loop-e.e-index c.args.entries.now c.loop-e-test.false)
+    c.loop-e.invariant ∙ ap (λ es. vec_items c.args.out.now ++ sheet_lines c.args.plan.now es) (take_all c.loop-e.e-index c.args.entries.now c.loop-e-test.false)
