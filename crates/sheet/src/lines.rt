@@ -6,6 +6,7 @@ ghost use Rattle.sheet.specs.Lines.{told_of, entry_lines, sheet_lines, AllInTabl
 
 use crate::entries::Entry;
 use machine::Call;
+use plan::entry;
 use plan::record::Plan;
 use runs::lists::run;
 use sets::word::WordSet;
@@ -35,27 +36,26 @@ fn push_entry(heap: Global, out: &mut Vec<u8>, plan: &Plan, e: Entry) -> Result<
     let first = show_call(heap, &[install], &low)?;
     let second = show_call(heap, &[install, low], &lock)?;
     let third = show_call(heap, &[install, low, lock], &high)?;
+    let entry = entry::Entry {
+        low: e.low,
+        high: e.high,
+        resource: e.resource,
+    };
     push_sheet_line(
         out,
-        e.low,
-        e.high,
-        e.resource,
+        entry,
         ShownCall::Release(e.low),
         &first,
     )?;
     push_sheet_line(
         out,
-        e.low,
-        e.high,
-        e.resource,
+        entry,
         ShownCall::Lock(e.resource),
         &second,
     )?;
     push_sheet_line(
         out,
-        e.low,
-        e.high,
-        e.resource,
+        entry,
         ShownCall::Release(e.high),
         &third,
     )

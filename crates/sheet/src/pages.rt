@@ -10,7 +10,7 @@ use crate::lines::push_entries;
 use oil::fault::PlanFault;
 use plan::record::Plan;
 use std::alloc::{AllocError, Global};
-use texts::sheets::{push_sheet_fault, push_sheet_header};
+use texts::tables::Table;
 use transcripts::plans::read_plan;
 
 // Adds the lines of every entry of the plan's table.
@@ -31,7 +31,7 @@ fn push_body(
 {
     match read {
         Ok(plan) => push_table(heap, out, plan),
-        Err(fault) => push_sheet_fault(out, fault.number(), fault.place()),
+        Err(fault) => Table::Sheet.push_fault(out, fault.number(), fault.place()),
     }
 }
 
@@ -40,7 +40,7 @@ pub fn sheet_of(heap: Global, read: &Result<Plan, PlanFault>) -> Result<Vec<u8>,
     ensures { IfOk result (λ v. v.items ≡ sheet_for read.now) }
 {
     let mut out = Vec::new(heap);
-    push_sheet_header(&mut out)?;
+    Table::Sheet.push_header(&mut out)?;
     push_body(heap, &mut out, read)?;
     Ok(out)
 }

@@ -18,7 +18,7 @@ use plan::record::Plan;
 use sets::waiting::WaitingSet;
 use sets::word::WordSet;
 use std::alloc::{AllocError, Global};
-use texts::lines::{push_fault, push_header};
+use texts::tables::Table;
 
 // A new kernel over the set, to which the plan was offered.
 fn started<R: WaitingSet>(set: R, plan: Plan) -> Kernel<R>
@@ -33,7 +33,7 @@ fn started<R: WaitingSet>(set: R, plan: Plan) -> Kernel<R>
 fn with_header(mut out: Vec<u8>) -> Result<Vec<u8>, AllocError>
     ensures { Grown out header result }
 {
-    push_header(&mut out)?;
+    Table::Calls.push_header(&mut out)?;
     Ok(out)
 }
 
@@ -41,7 +41,7 @@ fn with_header(mut out: Vec<u8>) -> Result<Vec<u8>, AllocError>
 fn with_fault(mut out: Vec<u8>, fault: &PlanFault) -> Result<Vec<u8>, AllocError>
     ensures { Grown out (fault_line (number_of fault.now.cause) fault.now.place) result }
 {
-    push_fault(&mut out, fault.number(), fault.place())?;
+    Table::Calls.push_fault(&mut out, fault.number(), fault.place())?;
     Ok(out)
 }
 

@@ -6,4 +6,4 @@ use Rattle.sheet.proofs.pages.sheet_of.Goals as goal
 pub returns : goal.returns
 returns c =
     c.in_ok-push_body.ensures
-    ∙ ap (λ bs. bs ++ body_for c.args.read.now) (c.in_ok-push_sheet_header.ensures.0 ∙ ap (λ bs. bs ++ sheet_header) c.new-out.ensures.items)
+    ∙ ap (λ bs. bs ++ body_for c.args.read.now) (c.in_ok-push_header.ensures.0 ∙ ap (λ bs. bs ++ sheet_header) c.new-out.ensures.items)
