@@ -4,7 +4,8 @@ ghost use Rattle.plan.specs.Plans.{may_hold_up};
 ghost use Rattle.machine.specs.Machine.{step};
 ghost use Rattle.kernel.specs.Meaning.{meaning};
 ghost use Rattle.texts.specs.Sheets.{sheet_line};
-ghost use Rattle.sheet.specs.Lines.{told_of, entry_lines, sheet_lines, AllInTable};
+ghost use Rattle.sheet.specs.Lines.{told_of, entry_lines, sheet_lines};
+ghost use Rattle.sheet.specs.Tables.{ListsTable};
 
 use kernel::kernel::Kernel;
 use machine::Call;
@@ -29,7 +30,7 @@ fn push_call<R: WaitingSet>(
 {
     let answer = kernel.call(call);
     let report = report_with(kernel, answer);
-    push_sheet_line(out, e.low, e.high, e.resource, shown, &report)
+    push_sheet_line(out, e, shown, &report)
 }
 
 // Adds the three lines of an entry of the plan's table.
@@ -47,13 +48,13 @@ fn push_entry(out: &mut Vec<u8>, plan: &Plan, e: Entry) -> Result<(), AllocError
     push_call(out, &mut kernel, e, ShownCall::Release(e.high), &high)
 }
 
-// Adds the lines of entries of the plan's table.
+// Adds the lines of the entries of the plan's table.
 pub(crate) fn push_entries(
     out: &mut Vec<u8>,
     plan: &Plan,
     entries: &[Entry],
 ) -> Result<(), AllocError>
-    requires { AllInTable plan.now entries.now }
+    requires { ListsTable plan.now entries.now }
     ensures { OnOk result (out.new.items ≡ out.old.items ++ sheet_lines plan.now entries.now) }
 {
     for e in entries {

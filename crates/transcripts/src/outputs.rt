@@ -18,7 +18,7 @@ use plan::record::Plan;
 use sets::waiting::WaitingSet;
 use sets::word::WordSet;
 use std::alloc::{AllocError, Global};
-use texts::lines::{push_fault, push_header};
+use texts::tables::Table;
 
 // A new kernel over the set, to which the plan was offered.
 fn started<R: WaitingSet>(set: R, plan: Plan) -> Kernel<R>
@@ -35,11 +35,11 @@ pub fn tell(mut out: Vec<u8>, plan_text: &[u8], input: &[u8]) -> Result<Vec<u8>,
     ensures { (x : Result Plan PlanFault) × ReadAs plan_text.now x × Grown out (output_for x input.now) result }
 {
     let read = read_plan(plan_text);
-    push_header(&mut out)?;
+    Table::Calls.push_header(&mut out)?;
     match read {
         Ok(plan) => transcribe(out, started(WordSet::new(64), plan), input),
         Err(fault) => {
-            push_fault(&mut out, fault.number(), fault.place())?;
+            Table::Calls.push_fault(&mut out, fault.number(), fault.place())?;
             Ok(out)
         }
     }
