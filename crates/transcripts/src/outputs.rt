@@ -21,7 +21,7 @@ use std::alloc::{AllocError, Global};
 use texts::tables::Table;
 
 // A new kernel over the set, to which the plan was offered.
-fn started<R: WaitingSet>(set: R, plan: Plan) -> Kernel<R>
+pub fn started<R: WaitingSet>(set: R, plan: Plan) -> Kernel<R>
     ensures { meaning R.room R.holds result ≡ step (Install plan) (fresh (R.room set) (R.holds set)) }
 {
     let mut kernel = Kernel::new(set);
