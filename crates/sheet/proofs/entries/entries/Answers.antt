@@ -17,9 +17,9 @@ loop-high-preserved c =
     let listed : Bool → List Entry = λ b. now ++ cond b (made_of l t r ∷ []) [] in
     let one : vec_items c.if-may_hold_up.out ≡ now ++ entry_if p r l t
     = elim c.if-may_hold_up.branch [
-          | then-may_hold_up+in_ok-push w ↦ ap vec_items w.out-is ∙ w.in_ok-push.ensures.items ∙ ap listed (sym w.if-may_hold_up.true ∙ c.may_hold_up.ensures)
-          | else-may_hold_up w ↦ ap vec_items w.out-is ∙ sym (append-nil now) ∙ ap listed (sym w.if-may_hold_up.false ∙ c.may_hold_up.ensures)
-        ] in
+      | then-may_hold_up+in_ok-push w ↦ ap vec_items w.out-is ∙ w.in_ok-push.ensures.items ∙ ap listed (sym w.if-may_hold_up.true ∙ c.may_hold_up.ensures)
+      | else-may_hold_up w ↦ ap vec_items w.out-is ∙ sym (append-nil now) ∙ ap listed (sym w.if-may_hold_up.false ∙ c.may_hold_up.ensures)
+    ] in
     turn_more (entry_if p r l) t (in_turn (entries_over p) r ++ in_turn (entries_between p r) l) now (vec_items c.if-may_hold_up.out) c.loop-high.invariant one
 
 pub loop-low-preserved : goal.loop-low-preserved
