@@ -1,5 +1,4 @@
-use Rattle.std.proofs.Common.{◌++◌, vec_items, ap, ◌∙◌, take_all}
-use Rattle.sheet.specs.Lines.{sheet_lines}
+use Rattle.std.proofs.Common.{vec_items}
 use Rattle.sheet.proofs.Adding.{lines_next, in_at}
 use Rattle.sheet.proofs.lines.push_entries.Goals as goal
 
@@ -10,7 +9,3 @@ pub loop-e-preserved : goal.loop-e-preserved
 loop-e-preserved c =
     lines_next c.args.plan.now c.args.entries.now c.loop-e.e-index _ (vec_items c.args.out.now) (vec_items c.loop-e.out) (vec_items c.push_entry.new.out)
     c.loop-e-test.true c.loop-e.invariant c.in_ok-push_entry.ensures
-
-pub returns : goal.returns
-returns c =
-    c.loop-e.invariant ∙ ap (λ es. vec_items c.args.out.now ++ sheet_lines c.args.plan.now es) (take_all c.loop-e.e-index c.args.entries.now c.loop-e-test.false)
