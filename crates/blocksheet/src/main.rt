@@ -2,46 +2,22 @@
 #![tactic(auto)]
 
 use sheet::pages::blocksheet;
-use std::io::{ErrorKind, Write};
+use std::io::Write;
 use std::process::ExitCode;
 use std::{fs, io};
-use transcripts::diagnosis::diagnose;
-use transcripts::plans::read_plan;
+use transcripts::programs::{exit_code, explanation, text_of};
 
-// The plan text. A file that cannot be read counts as an empty one; want of memory is an error.
-fn read_plan_text(rt: &HostRuntime) -> io::Result<Vec<u8>> {
-    match fs::read(rt, "plan.oil") {
-        Ok(text) => Ok(text),
-        Err(e) => {
-            if e.kind() == ErrorKind::OutOfMemory {
-                Err(e)
-            } else {
-                Ok(Vec::new(rt.alloc()))
-            }
-        }
-    }
-}
-
-// Reads, works and writes. Nothing is written before all of it is there.
+// Reads, works and writes. Nothing is written before all of it is there. A refused plan is explained on standard error.
 fn run(rt: &HostRuntime) -> io::Result<()> {
-    let text = read_plan_text(rt)?;
+    let text = text_of(rt.alloc(), fs::read(rt, "plan.oil"))?;
     let out = blocksheet(rt.alloc(), text.as_slice())?;
-    let mut stdout = rt.stdout();
-    stdout.write_all(out.as_slice())?;
-    if let Err(fault) = read_plan(text.as_slice()) {
-        let line = diagnose(rt.alloc(), text.as_slice(), &fault)?;
+    rt.stdout().write_all(out.as_slice())?;
+    if let Some(line) = explanation(rt.alloc(), text.as_slice())? {
         eprintln!(rt; "{line}")?;
     }
     Ok(())
 }
 
-// Want of memory, and input or output that fails, end with a line on standard error and status 1.
 fn main(rt: HostRuntime) -> ExitCode {
-    match run(&rt) {
-        Ok(()) => ExitCode::SUCCESS,
-        Err(e) => {
-            let _ = eprintln!(rt; "blocksheet: {e}");
-            ExitCode::FAILURE
-        }
-    }
+    exit_code(&rt, "blocksheet", run(&rt))
 }

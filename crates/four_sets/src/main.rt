@@ -8,8 +8,6 @@ ghost use Rattle.machine.specs.declared.Call.TheVariants.{Install};
 ghost use Rattle.machine.specs.Machine.{fresh, step};
 ghost use Rattle.transcripts.specs.Lines.{lines_of};
 
-use kernel::kernel::Kernel;
-use machine::Call;
 use plan::record::Plan;
 use sets::pair::Pair;
 use sets::two_level::TwoLevelSet;
@@ -18,6 +16,7 @@ use sets::word::WordSet;
 use std::alloc::{AllocError, Global};
 use std::io::Write;
 use std::{fs, io};
+use transcripts::outputs::started;
 use transcripts::plans::read_plan;
 use transcripts::runs::transcribe;
 
@@ -30,46 +29,47 @@ fn lines<R: WaitingSet + Drop>(
 ) -> Result<Vec<u8>, AllocError>
     ensures { IfOk result (λ v. v.items ≡ lines_of (step (Install plan) (fresh (R.room set) (R.holds set))) calls.now) }
 {
-    let mut kernel = Kernel::new(set);
-    let _ = kernel.call(&Call::Install(plan));
-    transcribe(Vec::new(heap), kernel, calls)
+    transcribe(Vec::new(heap), started(set, plan), calls)
 }
 
-// Prints whether the lines of a set are those of the word set.
-fn compare(rt: &HostRuntime, name: &str, found: &[u8], wanted: &[u8]) -> io::Result<()> {
-    if found == wanted {
-        println!(rt; "{name}: equal lines")
+// Prints whether the lines over a set are those that are wanted.
+fn compare<R: WaitingSet + Drop>(
+    rt: &HostRuntime,
+    name: &str,
+    set: R,
+    plan: Plan,
+    calls: &[u8],
+    wanted: &[u8],
+) -> io::Result<()> {
+    let found = lines(rt.alloc(), set, plan, calls)?;
+    let verdict = if found.as_slice() == wanted {
+        "equal"
     } else {
-        println!(rt; "{name}: other lines")
-    }
+        "other"
+    };
+    println!(rt; "{name}: {verdict} lines")
 }
 
 // Runs the calls over each set.
 fn run(rt: &HostRuntime, plan: Plan, calls: &[u8]) -> io::Result<()> {
-    let heap = rt.alloc();
-    let word = lines(heap, WordSet::new(64), plan, calls)?;
-    let mut stdout = rt.stdout();
-    stdout.write_all(word.as_slice())?;
-    let two_level = lines(heap, TwoLevelSet::new(), plan, calls)?;
-    compare(rt, "two-level set", two_level.as_slice(), word.as_slice())?;
-    let words = Pair::new(WordSet::new(40), WordSet::new(24));
-    let pair = lines(heap, words, plan, calls)?;
-    compare(
-        rt,
-        "pair of words of 40 and 24",
-        pair.as_slice(),
-        word.as_slice(),
-    )?;
-    let nested = Pair::new(
+    let lines = lines(rt.alloc(), WordSet::new(64), plan, calls)?;
+    let wanted = lines.as_slice();
+    rt.stdout().write_all(wanted)?;
+    let set = TwoLevelSet::new();
+    compare(rt, "two-level set", set, plan, calls, wanted)?;
+    let set = Pair::new(WordSet::new(40), WordSet::new(24));
+    compare(rt, "pair of words of 40 and 24", set, plan, calls, wanted)?;
+    let set = Pair::new(
         Pair::new(WordSet::new(40), WordSet::new(24)),
         TwoLevelSet::new(),
     );
-    let alone = lines(heap, nested, plan, calls)?;
     compare(
         rt,
         "pair of a pair and a two-level set",
-        alone.as_slice(),
-        word.as_slice(),
+        set,
+        plan,
+        calls,
+        wanted,
     )
 }
 

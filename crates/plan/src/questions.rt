@@ -1,7 +1,8 @@
 // What a plan tells of its tasks, resources and events. A number that the plan does not have gets none or no.
 ghost use Rattle.std.specs.Prelude.{◌≡◌, slice_index};
-ghost use Rattle.plan.specs.Plans.{ceiling as top_user, may_hold_up};
+ghost use Rattle.plan.specs.Plans.{ceiling as top_user, may_hold_up as in_table};
 
+use crate::entry::Entry;
 use crate::record::Plan;
 use vectors::{contains, highest};
 
@@ -34,14 +35,13 @@ impl Plan {
         highest(self.users_of(r))
     }
 
-    // The blocking table: whether task l may hold up task t over resource r.
-    pub fn may_hold_up(&self, l: u8, t: u8, r: u16) -> bool
-        ensures { result ≡ may_hold_up self.now l t r }
+    // Whether the blocking table has this entry.
+    pub fn may_hold_up(&self, e: Entry) -> bool
+        ensures { result ≡ in_table self.now e.low e.high e.resource }
     {
-        let reaches = match self.ceiling(r) {
-            Some(c) => t <= c,
-            None => false,
-        };
-        contains(self.declared, t) && l < t && contains(self.users_of(r), l) && reaches
+        contains(self.declared, e.high)
+            && e.low < e.high
+            && contains(self.users_of(e.resource), e.low)
+            && self.ceiling(e.resource).is_some_and(|c| e.high <= c)
     }
 }

@@ -1,16 +1,22 @@
 -- The run that shows an entry of the table.
-use Rattle.std.proofs.Common.{◌≡◌, ℕ, ◌<◌, Bool, true, ◌&&◌, ltb, ◌∙◌, ap₂, arith}
+use Rattle.std.proofs.Common.{◌≡◌, ℕ, ◌<◌, Bool, true, false, ◌&&◌, ltb, Ok, Err, sym, refl, ◌∙◌, ap₂, arith}
+use Rattle.std.specs.Result.{is_err}
 use Rattle.std.proofs.lemmas.Bool.{and_parts, ltb-true}
 use Rattle.plan.specs.declared.record.Plan.{Plan}
 use Rattle.machine.specs.declared.Call.TheVariants.{Install, Release, Lock}
 use Rattle.plan.specs.Plans.{declares, uses, ceiling, reaches, may_hold_up}
-use Rattle.machine.specs.Machine.{Machine, fresh, step, answer}
+use Rattle.machine.specs.Machine.{Machine, Answer, fresh, step, answer}
 use Rattle.machine.specs.History.{accepted}
 use Rattle.machine.specs.Laws.{Set}
 use Rattle.vectors.proofs.Bits.{shifted, shifted_is}
 use Rattle.vectors.proofs.Vectors.{in_small}
 use Rattle.laws.proofs.ExactTable.{shown}
 use Rattle.runs.specs.Entries.{Shows}
+
+-- an answer that is no error
+pub accepted_if : (a : Answer) → is_err a ≡ false → accepted a ≡ true
+accepted_if (Ok x) e = refl
+accepted_if (Err x) e = sym e
 
 -- with the vectors as code writes them
 pub shows : (p : Plan) (l t r c : ℕ) (w : ℕ → Bool) → Set c w → may_hold_up p l t r ≡ true → accepted (answer (Install p) (fresh c w)) ≡ true

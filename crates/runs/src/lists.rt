@@ -31,9 +31,8 @@ pub fn run<R: WaitingSet + Drop>(
 {
     let mut kernel = Kernel::new(set);
     let mut answers = Vec::with_capacity(heap, calls.len())?;
-    for i in 0..calls.len() {
-        let said = kernel.call(&calls[i]);
-        answers.push(said)?;
+    for call in calls {
+        answers.push(kernel.call(call))?;
     }
     Ok(Finished { kernel, answers })
 }

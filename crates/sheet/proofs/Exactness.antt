@@ -10,7 +10,7 @@ use Rattle.machine.specs.History.{accepted, HoldsUp}
 use Rattle.machine.specs.Laws.{history, showing}
 use Rattle.laws.proofs.Lists.{user_in_range}
 use Rattle.laws.proofs.ExactTable.{shown, nobody_waits, takes}
-use Rattle.sheet.specs.declared.entries.Entry.{Entry}
+use Rattle.plan.specs.declared.entry.Entry.{Entry}
 use Rattle.sheet.specs.Entries.{entry_if, entries_between, entries_over, entries_of}
 use Rattle.sheet.specs.Tables.{In, Before, Ordered, ListsTable}
 use Rattle.sheet.proofs.Turns.{in_one, from_one, ordered_turn}
@@ -30,7 +30,7 @@ one_ordered : (b : Bool) (e : Entry) → Ordered (cond b (e ∷ []) [])
 one_ordered true e = ((λ y i. absurd i), tt)
 one_ordered false e = tt
 
-abbrev made_of : ℕ → ℕ → ℕ → Entry
+abbrev pub made_of : ℕ → ℕ → ℕ → Entry
 made_of l t r = record { low = l; high = t; resource = r }
 
 -- what stands in each part

@@ -2,7 +2,7 @@
 use Rattle.std.proofs.Common.{◌≡◌, ℕ, zero, suc, ◌+◌, ◌<◌, ◌⊎◌, List, [], ◌∷◌, ◌++◌, sym, refl, ap, ◌∙◌, subst, inl, inr, ⊎_elim, add-one, arith}
 use Rattle.std.proofs.lemmas.List.{append_assoc}
 use Rattle.std.proofs.lemmas.Bool.{cases_eq}
-use Rattle.sheet.specs.declared.entries.Entry.{Entry}
+use Rattle.plan.specs.declared.entry.Entry.{Entry}
 use Rattle.sheet.specs.Entries.{in_turn}
 use Rattle.sheet.specs.Tables.{In, Before, Ordered}
 

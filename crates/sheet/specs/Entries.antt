@@ -2,7 +2,7 @@
 use Rattle.std.specs.Prelude.{ℕ, zero, suc, cond, List, [], ◌∷◌, ◌++◌}
 use Rattle.plan.specs.declared.record.Plan.{Plan}
 use Rattle.plan.specs.Plans.{may_hold_up}
-use Rattle.sheet.specs.declared.entries.Entry.{Entry}
+use Rattle.plan.specs.declared.entry.Entry.{Entry}
 
 -- The lists f 0, f 1, and so on up to f (n - 1), one after the other.
 abbrev pub in_turn : {A : Type 0} → (ℕ → List A) → ℕ → List A

@@ -1,7 +1,6 @@
 -- The bytes of the sheet's lines.
-use Rattle.std.specs.Prelude.{◌≡◌, ℕ, ◌^◌, true, false, List, [], ◌∷◌, ◌++◌}
+use Rattle.std.specs.Prelude.{ℕ, ◌^◌, false, List, [], ◌∷◌, ◌++◌}
 use Rattle.plan.specs.declared.record.Plan.{Plan}
-use Rattle.plan.specs.Plans.{may_hold_up}
 use Rattle.machine.specs.declared.Call.{Call}
 use Rattle.machine.specs.declared.Call.TheVariants.{Install, Release, Lock}
 use Rattle.machine.specs.Machine.{Machine, fresh, answer, step}
@@ -9,7 +8,7 @@ use Rattle.texts.specs.declared.outcomes.Report.{Report}
 use Rattle.texts.specs.declared.sheets.ShownCall.TheVariants as shown
 use Rattle.texts.specs.Sheets.{sheet_line}
 use Rattle.transcripts.specs.Reports.{report_with}
-use Rattle.sheet.specs.declared.entries.Entry.{Entry}
+use Rattle.plan.specs.declared.entry.Entry.{Entry}
 
 -- What a call on the machine m tells.
 abbrev pub told_of : Call → Machine → Report
@@ -33,8 +32,3 @@ entry_lines p e =
 abbrev pub sheet_lines : Plan → List Entry → List ℕ
 sheet_lines p [] = []
 sheet_lines p (e ∷ es) = entry_lines p e ++ sheet_lines p es
-
--- Each of these entries is in the table of the plan p.
-abbrev pub AllInTable : Plan → List Entry → Type 0
-AllInTable p [] = Unit {0}
-AllInTable p (e ∷ es) = (may_hold_up p e.low e.high e.resource ≡ true) × AllInTable p es

@@ -5,7 +5,7 @@ use Rattle.plan.specs.Plans.{may_hold_up}
 use Rattle.machine.specs.declared.Call.TheVariants.{Install}
 use Rattle.machine.specs.History.{HoldsUp}
 use Rattle.machine.specs.Laws.{history, showing}
-use Rattle.sheet.specs.declared.entries.Entry.{Entry}
+use Rattle.plan.specs.declared.entry.Entry.{Entry}
 
 -- The entry x stands in the list.
 abbrev pub In : List Entry → Entry → Type 0

@@ -1,78 +1,64 @@
-// The lines of the sheet: three for each entry, from real runs of new kernels.
-ghost use Rattle.std.specs.Prelude.{◌≡◌, Bool, true, false, ◌++◌, IfOk, OnOk};
+// The lines of the sheet: three for each entry, from a real run of a new kernel.
+ghost use Rattle.std.specs.Prelude.{◌≡◌, ℕ, Bool, true, ◌++◌, OnOk};
 ghost use Rattle.plan.specs.Plans.{may_hold_up};
-ghost use Rattle.machine.specs.Machine.{fresh, run as after_all};
-ghost use Rattle.sheet.specs.Lines.{told_of, entry_lines, sheet_lines, AllInTable};
+ghost use Rattle.machine.specs.Machine.{step};
+ghost use Rattle.kernel.specs.Meaning.{meaning};
+ghost use Rattle.texts.specs.Sheets.{sheet_line};
+ghost use Rattle.sheet.specs.Lines.{told_of, entry_lines, sheet_lines};
+ghost use Rattle.sheet.specs.Tables.{ListsTable};
 
-use crate::entries::Entry;
+use kernel::kernel::Kernel;
 use machine::Call;
+use plan::entry::Entry;
 use plan::record::Plan;
-use runs::lists::run;
+use sets::waiting::WaitingSet;
 use sets::word::WordSet;
-use std::alloc::{AllocError, Global};
-use texts::outcomes::Report;
+use std::alloc::AllocError;
 use texts::sheets::{ShownCall, push_sheet_line};
 use transcripts::service::report_with;
 
-// What a call tells after others on a new kernel over an empty word set of size 64.
-fn show_call(heap: Global, before: &[Call], call: &Call) -> Result<Report, AllocError>
-    ensures { IfOk result (λ x. x ≡ told_of call.now (after_all before.now (fresh 64 (λ t. false)))) }
+// Makes a call of the run that shows an entry, and adds its line.
+fn push_call<R: WaitingSet>(
+    out: &mut Vec<u8>,
+    kernel: &mut Kernel<R>,
+    e: Entry,
+    shown: ShownCall,
+    call: &Call,
+) -> Result<(), AllocError>
+    ensures after { meaning R.room R.holds kernel.new ≡ step call.now (meaning R.room R.holds kernel.old) }
+    ensures line { OnOk result (out.new.items ≡ out.old.items ++ sheet_line e.low e.high e.resource shown (told_of call.now (meaning R.room R.holds kernel.old))) }
 {
-    let mut finished = run(heap, WordSet::new(64), before)?;
-    let answer = finished.kernel.call(call);
-    Ok(report_with(&finished.kernel, answer))
+    let answer = kernel.call(call);
+    let report = report_with(kernel, answer);
+    push_sheet_line(out, e, shown, &report)
 }
 
 // Adds the three lines of an entry of the plan's table.
-fn push_entry(heap: Global, out: &mut Vec<u8>, plan: &Plan, e: Entry) -> Result<(), AllocError>
+fn push_entry(out: &mut Vec<u8>, plan: &Plan, e: Entry) -> Result<(), AllocError>
     requires { may_hold_up plan.now e.low e.high e.resource ≡ true }
     ensures { OnOk result (out.new.items ≡ out.old.items ++ entry_lines plan.now e) }
 {
-    let install = Call::Install(*plan);
+    let mut kernel = Kernel::new(WordSet::new(64));
+    let _ = kernel.call(&Call::Install(*plan));
     let low = Call::Release(1 << e.low);
     let lock = Call::Lock(e.resource);
     let high = Call::Release(1 << e.high);
-    let first = show_call(heap, &[install], &low)?;
-    let second = show_call(heap, &[install, low], &lock)?;
-    let third = show_call(heap, &[install, low, lock], &high)?;
-    push_sheet_line(
-        out,
-        e.low,
-        e.high,
-        e.resource,
-        ShownCall::Release(e.low),
-        &first,
-    )?;
-    push_sheet_line(
-        out,
-        e.low,
-        e.high,
-        e.resource,
-        ShownCall::Lock(e.resource),
-        &second,
-    )?;
-    push_sheet_line(
-        out,
-        e.low,
-        e.high,
-        e.resource,
-        ShownCall::Release(e.high),
-        &third,
-    )
+    push_call(out, &mut kernel, e, ShownCall::Release(e.low), &low)?;
+    push_call(out, &mut kernel, e, ShownCall::Lock(e.resource), &lock)?;
+    push_call(out, &mut kernel, e, ShownCall::Release(e.high), &high)
 }
 
-// Adds the lines of entries of the plan's table.
+// Adds the lines of the entries of the plan's table.
 pub(crate) fn push_entries(
-    heap: Global,
     out: &mut Vec<u8>,
     plan: &Plan,
     entries: &[Entry],
 ) -> Result<(), AllocError>
-    requires { AllInTable plan.now entries.now }
+    requires { ListsTable plan.now entries.now }
     ensures { OnOk result (out.new.items ≡ out.old.items ++ sheet_lines plan.now entries.now) }
 {
-    for i in 0..entries.len() {
-        push_entry(heap, out, plan, entries[i])?;
+    for e in entries {
+        push_entry(out, plan, *e)?;
     }
     Ok(())
 }

@@ -10,38 +10,22 @@ use crate::lines::push_entries;
 use oil::fault::PlanFault;
 use plan::record::Plan;
 use std::alloc::{AllocError, Global};
-use texts::sheets::{push_sheet_fault, push_sheet_header};
+use texts::tables::Table;
 use transcripts::plans::read_plan;
-
-// Adds the lines of every entry of the plan's table.
-fn push_table(heap: Global, out: &mut Vec<u8>, plan: &Plan) -> Result<(), AllocError>
-    ensures { OnOk result (out.new.items ≡ out.old.items ++ sheet_lines plan.now (entries_of plan.now)) }
-{
-    let all = entries(heap, plan)?;
-    push_entries(heap, out, plan, all.as_slice())
-}
-
-// Adds what follows the header, for what a plan text came to.
-fn push_body(
-    heap: Global,
-    out: &mut Vec<u8>,
-    read: &Result<Plan, PlanFault>,
-) -> Result<(), AllocError>
-    ensures { OnOk result (out.new.items ≡ out.old.items ++ body_for read.now) }
-{
-    match read {
-        Ok(plan) => push_table(heap, out, plan),
-        Err(fault) => push_sheet_fault(out, fault.number(), fault.place()),
-    }
-}
 
 // The sheet of what a plan text came to.
 pub fn sheet_of(heap: Global, read: &Result<Plan, PlanFault>) -> Result<Vec<u8>, AllocError>
     ensures { IfOk result (λ v. v.items ≡ sheet_for read.now) }
 {
     let mut out = Vec::new(heap);
-    push_sheet_header(&mut out)?;
-    push_body(heap, &mut out, read)?;
+    Table::Sheet.push_header(&mut out)?;
+    match read {
+        Ok(plan) => {
+            let all = entries(heap, plan)?;
+            push_entries(&mut out, plan, all.as_slice())?;
+        }
+        Err(fault) => Table::Sheet.push_fault(&mut out, fault.number(), fault.place())?,
+    }
     Ok(out)
 }
 

@@ -11,3 +11,4 @@ pub mod Outcomes
 pub mod Lines
 pub mod Spelling
 pub mod Sheets
+pub mod Tables

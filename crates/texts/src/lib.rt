@@ -12,4 +12,5 @@ pub mod records;
 pub mod requests;
 pub mod sheets;
 pub mod spellings;
+pub mod tables;
 mod verbs;

@@ -2,11 +2,10 @@
 ghost use Rattle.std.specs.Prelude.{◌≡◌, ◌+◌, ◌≤◌, ◌++◌, decimal};
 ghost use Rattle.texts.specs.Fronts.{text_of, hex};
 ghost use Rattle.texts.specs.Outputs.{Appended};
-ghost use Rattle.texts.specs.Lines.{field, optional, flag, line_end, header, fault_line, line};
+ghost use Rattle.texts.specs.Lines.{field, optional, flag, line_end, line};
 
 use crate::fronts::Front;
 use crate::outcomes::Report;
-use crate::outputs::add;
 use std::alloc::AllocError;
 
 // Puts a number and its comma before the text.
@@ -52,25 +51,6 @@ fn put_mark(text: &mut Front, mark: Option<bool>)
         Some(false) => text.put_all(b"0\r\n"),
         None => text.put_all(b"\r\n"),
     }
-}
-
-// Adds the header to the output, or nothing.
-pub fn push_header(out: &mut Vec<u8>) -> Result<(), AllocError>
-    ensures { Appended out.old header result out.new }
-{
-    add(out, b"call,result,running,waiting,ceiling,mark\r\n")
-}
-
-// Adds the line of a refused plan to the output, or nothing: the number of the fault, and its place in the text.
-pub fn push_fault(out: &mut Vec<u8>, number: u8, place: usize) -> Result<(), AllocError>
-    ensures { Appended out.old (fault_line number place) result out.new }
-{
-    let mut text = Front::empty();
-    text.put_all(b",,\r\n");
-    put_number(&mut text, place as u64);
-    put_number(&mut text, number as u64);
-    text.put_all(b"plan,");
-    text.add_to(out)
 }
 
 // Adds the line of a call to the output, or nothing.

@@ -3,12 +3,12 @@ ghost use Rattle.std.specs.Prelude.{◌≡◌, ◌+◌, ◌≤◌, [], ◌++◌,
 ghost use Rattle.texts.specs.Fronts.{text_of};
 ghost use Rattle.texts.specs.Outputs.{Appended};
 ghost use Rattle.texts.specs.Lines.{field};
-ghost use Rattle.texts.specs.Sheets.{call_text, entry_part, report_part, sheet_line, sheet_header, sheet_fault};
+ghost use Rattle.texts.specs.Sheets.{call_text, entry_part, report_part, sheet_line};
 
 use crate::fronts::Front;
 use crate::lines::{put_number, put_optional, put_vector};
 use crate::outcomes::Report;
-use crate::outputs::add;
+use plan::entry::Entry;
 use std::alloc::AllocError;
 
 // A call of such a run: the release of one task, or the lock of a resource.
@@ -38,15 +38,15 @@ fn put_call(text: &mut Front, call: ShownCall)
 }
 
 // The first four fields: the entry's numbers, and the call.
-fn entry_text(low: u8, high: u8, resource: u16, call: ShownCall) -> Front
-    ensures { text_of result ≡ entry_part low high resource call [] }
+fn entry_text(entry: Entry, call: ShownCall) -> Front
+    ensures { text_of result ≡ entry_part entry.low entry.high entry.resource call [] }
 {
     let mut text = Front::empty();
     text.put(b',');
     put_call(&mut text, call);
-    put_number(&mut text, resource as u64);
-    put_number(&mut text, high as u64);
-    put_number(&mut text, low as u64);
+    put_number(&mut text, entry.resource as u64);
+    put_number(&mut text, entry.high as u64);
+    put_number(&mut text, entry.low as u64);
     text
 }
 
@@ -65,39 +65,15 @@ fn report_text(report: &Report) -> Front
     text
 }
 
-// Adds the header of the sheet to the output, or nothing.
-pub fn push_sheet_header(out: &mut Vec<u8>) -> Result<(), AllocError>
-    ensures { Appended out.old sheet_header result out.new }
-{
-    add(
-        out,
-        b"low,high,resource,call,result,running,waiting,ceiling\r\n",
-    )
-}
-
-// Adds the line of a refused plan to the output, or nothing: the number of the fault, and its place in the text.
-pub fn push_sheet_fault(out: &mut Vec<u8>, number: u8, place: usize) -> Result<(), AllocError>
-    ensures { Appended out.old (sheet_fault number place) result out.new }
-{
-    let mut text = Front::empty();
-    text.put_all(b",,,,\r\n");
-    put_number(&mut text, place as u64);
-    put_number(&mut text, number as u64);
-    text.put_all(b"plan,");
-    text.add_to(out)
-}
-
 // Adds the line of one call of the run that shows an entry. The only error is want of memory.
 pub fn push_sheet_line(
     out: &mut Vec<u8>,
-    low: u8,
-    high: u8,
-    resource: u16,
+    entry: Entry,
     call: ShownCall,
     report: &Report,
 ) -> Result<(), AllocError>
-    ensures { OnOk result (out.new.items ≡ out.old.items ++ sheet_line low high resource call report.now) }
+    ensures { OnOk result (out.new.items ≡ out.old.items ++ sheet_line entry.low entry.high entry.resource call report.now) }
 {
-    entry_text(low, high, resource, call).add_to(out)?;
+    entry_text(entry, call).add_to(out)?;
     report_text(report).add_to(out)
 }

@@ -1,5 +1,5 @@
 -- What the loop over the records of an input keeps.
-use Rattle.std.proofs.Common.{◌≡◌, ℕ, zero, suc, ◌+◌, ◌-◌, ◌<◌, ◌≤◌, List, [], ◌∷◌, ◌++◌, length, take, vec_items, vec_len, vec_capacity, Vec, sym, refl, ap, ◌∙◌, subst, append_assoc, append-nil, arith, length-append}
+use Rattle.std.proofs.Common.{◌≡◌, ℕ, suc, ◌+◌, ◌-◌, ◌<◌, ◌≤◌, List, [], ◌∷◌, ◌++◌, length, take, vec_items, vec_len, vec_capacity, Vec, sym, ap, ◌∙◌, subst, take_all, append_assoc, append-nil, arith, length-append}
 use Rattle.machine.specs.Machine.{Machine}
 use Rattle.texts.specs.declared.outcomes.Report.{Report}
 use Rattle.texts.specs.Lines.{line}
@@ -7,14 +7,6 @@ use Rattle.texts.specs.Records.{records}
 use Rattle.texts.specs.Requests.{asked}
 use Rattle.transcripts.specs.Reports.{after_record, report_after}
 use Rattle.transcripts.specs.Lines.{lines_from}
-
-take_first : {X : Type 0} (n : ℕ) (x : X) (xs : List X) → 0 < n → take n (x ∷ xs) ≡ x ∷ take (n - 1) xs
-take_first zero x xs some = absurd (omega arith)
-take_first (suc n) x xs some = ap (λ k. x ∷ take k xs) (let e : n ≡ suc n - 1 = omega arith in e)
-
-take_none : {X : Type 0} (n : ℕ) → ◌≡◌ {A = List X} (take n []) []
-take_none zero = refl
-take_none (suc n) = refl
 
 -- Two fronts of one list.
 fronts : (a b c d e : List ℕ) → a ++ (b ++ c) ≡ d ++ e → length a + length b ≤ length d + length e
@@ -35,11 +27,8 @@ module _ (limit n : ℕ) (m : Machine) (bs : List ℕ) where
       left limit n m bs ≡ line (n + 1) (report_after (asked q) m) ++ left limit (n + 1) (after_record (asked q) m) after
   unfolding lines_from
   left_first q after lt cut =
-      let rs = records after in
-      let one : limit - n - 1 ≡ limit - (n + 1) = omega arith in
-      ap (λ l. lines_from n m (take (limit - n) l)) cut
-      ∙ ap (lines_from n m) (take_first (limit - n) q rs (omega arith))
-      ∙ ap (λ k. line (n + 1) (report_after (asked q) m) ++ lines_from (n + 1) (after_record (asked q) m) (take k rs)) one
+      let more : limit - n ≡ suc (limit - (n + 1)) = omega arith in
+      ap (λ l. lines_from n m (take (limit - n) l)) cut ∙ ap (λ k. lines_from n m (take k (q ∷ records after))) more
 
   -- Nothing is left: the limit is reached, or there is no record.
   pub left_none : limit ≤ n → left limit n m bs ≡ []
@@ -48,7 +37,7 @@ module _ (limit n : ℕ) (m : Machine) (bs : List ℕ) where
 
   pub left_end : records bs ≡ [] → left limit n m bs ≡ []
   unfolding lines_from
-  left_end none = ap (λ l. lines_from n m (take (limit - n) l)) none ∙ ap (lines_from n m) (take_none (limit - n))
+  left_end none = ap (λ l. lines_from n m (take (limit - n) l)) none ∙ ap (lines_from n m) (take_all (limit - n) [] (omega arith))
 
   -- One turn: a line is written, and the lines of the rest are left.
   pub turn : (q after out more whole : List ℕ) (report : Report) (next : Machine) → n < limit → records bs ≡ q ∷ records after →

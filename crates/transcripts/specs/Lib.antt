@@ -3,3 +3,4 @@ pub mod Lines
 pub mod Outputs
 pub mod Inputs
 pub mod Diagnosis
+pub mod Programs

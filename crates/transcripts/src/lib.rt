@@ -5,6 +5,7 @@ pub mod diagnosis;
 pub mod input;
 pub mod outputs;
 pub mod plans;
+pub mod programs;
 mod rooms;
 pub mod runs;
 pub mod service;

@@ -18,10 +18,10 @@ use plan::record::Plan;
 use sets::waiting::WaitingSet;
 use sets::word::WordSet;
 use std::alloc::{AllocError, Global};
-use texts::lines::{push_fault, push_header};
+use texts::tables::Table;
 
 // A new kernel over the set, to which the plan was offered.
-fn started<R: WaitingSet>(set: R, plan: Plan) -> Kernel<R>
+pub fn started<R: WaitingSet>(set: R, plan: Plan) -> Kernel<R>
     ensures { meaning R.room R.holds result ≡ step (Install plan) (fresh (R.room set) (R.holds set)) }
 {
     let mut kernel = Kernel::new(set);
@@ -29,60 +29,20 @@ fn started<R: WaitingSet>(set: R, plan: Plan) -> Kernel<R>
     kernel
 }
 
-// Adds the header.
-fn with_header(mut out: Vec<u8>) -> Result<Vec<u8>, AllocError>
-    ensures { Grown out header result }
-{
-    push_header(&mut out)?;
-    Ok(out)
-}
-
-// Adds the line of a fault.
-fn with_fault(mut out: Vec<u8>, fault: &PlanFault) -> Result<Vec<u8>, AllocError>
-    ensures { Grown out (fault_line (number_of fault.now.cause) fault.now.place) result }
-{
-    push_fault(&mut out, fault.number(), fault.place())?;
-    Ok(out)
-}
-
-// Adds the lines of an input under a plan, on a kernel over a word set of size 64.
-fn with_lines(out: Vec<u8>, plan: Plan, input: &[u8]) -> Result<Vec<u8>, AllocError>
-    ensures { Grown out (lines_of (begun plan) input.now) result }
-{
-    transcribe(out, started(WordSet::new(64), plan), input)
-}
-
-// Adds what follows the header, for what a plan text came to.
-fn with_body(
-    out: Vec<u8>,
-    read: Result<Plan, PlanFault>,
-    input: &[u8],
-) -> Result<Vec<u8>, AllocError>
-    ensures { Grown out (body_for read input.now) result }
-{
-    match read {
-        Ok(plan) => with_lines(out, plan, input),
-        Err(fault) => with_fault(out, &fault),
-    }
-}
-
-// Adds the whole output.
-fn with_output(
-    out: Vec<u8>,
-    read: Result<Plan, PlanFault>,
-    input: &[u8],
-) -> Result<Vec<u8>, AllocError>
-    ensures { Grown out (output_for read input.now) result }
-{
-    with_body(with_header(out)?, read, input)
-}
-
 // Adds the output of layrun on a plan text and an input to a vector: the header, and a line for each of the first
 // 1,000,000 records; or for a refused plan the line of its fault. The only error is want of memory.
-pub fn tell(out: Vec<u8>, plan_text: &[u8], input: &[u8]) -> Result<Vec<u8>, AllocError>
+pub fn tell(mut out: Vec<u8>, plan_text: &[u8], input: &[u8]) -> Result<Vec<u8>, AllocError>
     ensures { (x : Result Plan PlanFault) × ReadAs plan_text.now x × Grown out (output_for x input.now) result }
 {
-    with_output(out, read_plan(plan_text), input)
+    let read = read_plan(plan_text);
+    Table::Calls.push_header(&mut out)?;
+    match read {
+        Ok(plan) => transcribe(out, started(WordSet::new(64), plan), input),
+        Err(fault) => {
+            Table::Calls.push_fault(&mut out, fault.number(), fault.place())?;
+            Ok(out)
+        }
+    }
 }
 
 // The output of layrun on a plan text and an input.

@@ -12,8 +12,6 @@ pub fn read_plan(text: &[u8]) -> Result<Plan, PlanFault>
 {
     let mut names = [NameRecord::empty(); 128];
     let mut plan = Plan::unfilled();
-    match read(text, &mut names, &mut plan) {
-        Ok(()) => Ok(plan),
-        Err(fault) => Err(fault),
-    }
+    read(text, &mut names, &mut plan)?;
+    Ok(plan)
 }

@@ -7,10 +7,7 @@ use std::alloc::Global;
 pub(crate) fn with_room(heap: Global, n: usize) -> Vec<u8>
     ensures { result.items ≡ [] }
 {
-    match Vec::with_capacity(heap, n) {
-        Ok(out) => out,
-        Err(_) => Vec::new(heap),
-    }
+    Vec::with_capacity(heap, n).unwrap_or(Vec::new(heap))
 }
 
 // Room for the output on most inputs: a line is seldom more than four times as long as its record.

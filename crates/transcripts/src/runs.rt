@@ -14,7 +14,8 @@ use texts::records::cut_record;
 pub const LIMIT: u32 = 1_000_000;
 
 // Serves the kernel with the records of the input, of which the first 1,000,000 count, and adds a line for each
-// to the output. The only error is want of memory for the lines.
+// to the output. The only error is want of memory for the lines. The output is taken by value, so that after an error
+// nobody goes on with some of the lines.
 pub fn transcribe<R: WaitingSet + Drop>(
     mut out: Vec<u8>,
     mut kernel: Kernel<R>,
@@ -23,6 +24,7 @@ pub fn transcribe<R: WaitingSet + Drop>(
     ensures { Grown out (lines_of (meaning R.room R.holds kernel) input.now) result }
 {
     let mut rest = input;
+    // `cut_record` says how to go on; an iterator over the records would be a type with laws of its own for this one loop.
     for count in 0..LIMIT {
         let Some((text, after)) = cut_record(rest) else {
             return Ok(out);

@@ -5,6 +5,7 @@ ghost use Rattle.transcripts.specs.Inputs.{bytes_of, Enough};
 
 use crate::input::Input;
 use crate::rooms::with_room;
+use crate::runs::LIMIT;
 use std::alloc::{AllocError, Global};
 use texts::records::line_ends;
 
@@ -34,7 +35,7 @@ impl Input {
         ensures value { result ≡ nat_le 1000000 (feeds (bytes_of self.now)) }
         ensures enough { result ≡ true → Enough (bytes_of self.now) }
     {
-        self.ends >= 1_000_000
+        self.ends >= LIMIT as usize
     }
 
     // The bytes so far.

@@ -8,28 +8,28 @@ use Rattle.laws.proofs.Histories.{run_next}
 use Rattle.runs.proofs.Answered.{answers_next, paired_all}
 use Rattle.runs.proofs.lists.run.Goals as goal
 
-pub loop-i-preserved : goal.loop-i-preserved
-loop-i-preserved g c =
+pub loop-call-preserved : goal.loop-call-preserved
+loop-call-preserved g c =
     let m = meaning g.R.WaitingSet.room g.R.WaitingSet.holds c.new-kernel.result in
     let cs = c.args.calls.now in
-    let i = c.loop-i.i in
-    let x = c.index-calls-i.result in
-    let inv = c.loop-i.invariant in (
+    let i = c.loop-call.call-index in
+    let x = c.call-item.result in
+    let inv = c.loop-call.invariant in (
       omega arith,
-      c.call-said.ensures.after ∙ ap (step x) inv.1 ∙ sym (run_next cs i x m c.loop-i-test.true c.index-calls-i.is),
+      c.call.ensures.after ∙ ap (step x) inv.1 ∙ sym (run_next cs i x m c.loop-call-test.true c.call-item.is),
       c.in_ok-push.ensures.items
-          ∙ ap₂ (λ (xs : List Answer) (a : Answer). xs ++ (a ∷ [])) inv.2 (c.call-said.ensures.value ∙ ap (answer x) inv.1)
-          ∙ answers_next cs i x m c.loop-i-test.true c.index-calls-i.is,
+          ∙ ap₂ (λ (xs : List Answer) (a : Answer). xs ++ (a ∷ [])) inv.2 (c.call.ensures.value ∙ ap (answer x) inv.1)
+          ∙ answers_next cs i x m c.loop-call-test.true c.call-item.is,
     )
 
 pub returns : goal.returns
 returns g c =
     let s = g.R.WaitingSet in
     let cs = c.args.calls.now in
-    let inv = c.loop-i.invariant in
-    let all : take c.loop-i.i cs ≡ cs = take_all c.loop-i.i cs c.loop-i-test.false in
+    let inv = c.loop-call.invariant in
+    let all : take c.loop-call.call-index cs ≡ cs = take_all c.loop-call.call-index cs c.loop-call-test.false in
     let m = fresh (s.room c.args.set) (s.holds c.args.set) in
-    let told : vec_items c.loop-i.answers ≡ answers cs m = inv.2 ∙ ap₂ (λ (xs : List Call) (m : Machine). answers xs m) all c.new-kernel.ensures.made in
+    let told : vec_items c.loop-call.answers ≡ answers cs m = inv.2 ∙ ap₂ (λ (xs : List Call) (m : Machine). answers xs m) all c.new-kernel.ensures.made in
     let lawful : (n : ℕ) → Lawful (history (s.room c.args.set) (s.holds c.args.set) (take n cs)) = λ n. all_lawful (s.room c.args.set) (s.holds c.args.set) c.new-kernel.ensures.set (take n cs) in
     record {
       after = inv.1 ∙ ap₂ (λ (xs : List Call) (m : Machine). run xs m) all c.new-kernel.ensures.made;

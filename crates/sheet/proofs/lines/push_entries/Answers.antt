@@ -1,16 +1,11 @@
-use Rattle.std.proofs.Common.{◌++◌, vec_items, ap, ◌∙◌, take_all}
-use Rattle.sheet.specs.Lines.{sheet_lines}
-use Rattle.sheet.proofs.Adding.{lines_next, in_table}
+use Rattle.std.proofs.Common.{vec_items}
+use Rattle.sheet.proofs.Adding.{lines_next, in_at}
 use Rattle.sheet.proofs.lines.push_entries.Goals as goal
 
 pub push_entry-requires : goal.push_entry-requires
-push_entry-requires c = in_table c.args.plan.now c.args.entries.now c.loop-i.i _ c.requires c.loop-i-test.true
+push_entry-requires c = c.requires.sound _ (in_at c.args.entries.now c.loop-e.e-index _ c.loop-e-test.true)
 
-pub loop-i-preserved : goal.loop-i-preserved
-loop-i-preserved c =
-    lines_next c.args.plan.now c.args.entries.now c.loop-i.i _ (vec_items c.args.out.now) (vec_items c.loop-i.out) (vec_items c.push_entry.new.out)
-    c.loop-i-test.true c.loop-i.invariant c.in_ok-push_entry.ensures
-
-pub returns : goal.returns
-returns c =
-    c.loop-i.invariant ∙ ap (λ es. vec_items c.args.out.now ++ sheet_lines c.args.plan.now es) (take_all c.loop-i.i c.args.entries.now c.loop-i-test.false)
+pub loop-e-preserved : goal.loop-e-preserved
+loop-e-preserved c =
+    lines_next c.args.plan.now c.args.entries.now c.loop-e.e-index _ (vec_items c.args.out.now) (vec_items c.loop-e.out) (vec_items c.push_entry.new.out)
+    c.loop-e-test.true c.loop-e.invariant c.in_ok-push_entry.ensures

@@ -1,12 +1,9 @@
-use Rattle.std.proofs.Common.{refl, arith}
+use Rattle.std.proofs.Common.{arith}
 use Rattle.std.proofs.lemmas.Result.{err_from_is_err_and}
 use Rattle.kernel.specs.Meaning.{meaning}
 use Rattle.transcripts.proofs.Growth.{refused}
 use Rattle.transcripts.proofs.Turns.{left_none, left_end, turn, over, no_room}
 use Rattle.transcripts.proofs.runs.transcribe.Goals as goal
-
-pub loop-count-init : goal.loop-count-init
-loop-count-init g c = (refl, omega arith)
 
 pub loop-count-preserved : goal.loop-count-preserved
 loop-count-preserved g c =
