@@ -5,7 +5,7 @@ ghost use Rattle.texts.specs.Outcomes.{outcome_number};
 use machine::Refusal;
 
 // What came of a record: its call was accepted, or was refused, or it spells no call.
-#[derive(Clone, Copy)]
+#[derive(Clone, Copy, PartialEq, Debug)]
 pub enum Outcome {
     Accepted,
     Refused(Refusal),
@@ -27,7 +27,7 @@ impl Outcome {
 
 // The outcome of a record, and then the running task, the vector of waiting tasks, the system ceiling, and the
 // mark that an accepted test found.
-#[derive(Clone, Copy)]
+#[derive(Clone, Copy, PartialEq, Debug)]
 pub struct Report {
     pub outcome: Outcome,
     pub running: Option<u8>,

@@ -76,9 +76,7 @@ pub fn read_call(text: &[u8]) -> Option<Call>
     ensures spells { (q : Call) → (result ≡ Some q → Spells q text.now) × (Spells q text.now → result ≡ Some q) }
 {
     let (word, more) = cut_word(text);
-    let Some(verb) = Verb::read(word) else {
-        return None;
-    };
+    let verb = Verb::read(word)?;
     match more {
         Some(fields) => read_fields(verb, fields),
         None => read_bare(verb),

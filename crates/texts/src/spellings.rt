@@ -3,17 +3,27 @@ ghost use Rattle.std.specs.Prelude.{◌≡◌, ◌+◌, ◌≤◌, true, false, 
 ghost use Rattle.texts.specs.Fronts.{text_of, hex};
 ghost use Rattle.texts.specs.Lines.{field};
 ghost use Rattle.texts.specs.Verbs.{word_of};
+ghost use Rattle.texts.specs.declared.spellings.Unwritten.TheVariants.{NoMemory};
 ghost use Rattle.texts.specs.Spelling.{vector_after, numbered, is_short, has_record, record_of, FitsVector, Fits, Spelt, ReadsBack};
 
 use crate::fronts::Front;
 use crate::verbs::Verb;
 use machine::Call;
+use std::alloc::AllocError;
 
 // Why a call was not written: it has no record, or memory is wanting.
 #[derive(Clone, Copy, PartialEq, Debug)]
 pub enum Unwritten {
     NoRecord,
     NoMemory,
+}
+
+impl From<AllocError> for Unwritten {
+    ghost from_gives = { λ _ why. why ≡ NoMemory };
+
+    fn from(_: AllocError) -> Unwritten {
+        Unwritten::NoMemory
+    }
 }
 
 // The text of a verb and a vector.
@@ -96,11 +106,6 @@ pub fn push_call(out: &mut Vec<u8>, call: &Call) -> Result<(), Unwritten>
     ensures writes { Spelt call.now out.old result out.new }
     ensures law { ReadsBack call.now }
 {
-    let Some(text) = record_text(call) else {
-        return Err(Unwritten::NoRecord);
-    };
-    match text.add_to(out) {
-        Ok(()) => Ok(()),
-        Err(_) => Err(Unwritten::NoMemory),
-    }
+    let text = record_text(call).ok_or(Unwritten::NoRecord)?;
+    Ok(text.add_to(out)?)
 }

@@ -4,7 +4,7 @@ ghost use Rattle.std.specs.Str.{bytes_eq};
 ghost use Rattle.texts.specs.Verbs.{word_of, verb_of};
 
 // What a record asks, by its first field.
-#[derive(Clone, Copy)]
+#[derive(Clone, Copy, PartialEq, Debug)]
 pub enum Verb {
     Releases,
     Locks,
