@@ -7,3 +7,4 @@ pub mod Spelt
 pub mod Fronted
 pub mod Backs
 pub mod SheetLines
+pub mod Words
