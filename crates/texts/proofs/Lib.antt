@@ -7,4 +7,3 @@ pub mod Spelt
 pub mod Fronted
 pub mod Backs
 pub mod SheetLines
-pub mod Words

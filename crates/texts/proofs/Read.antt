@@ -1,5 +1,5 @@
 -- The records of an input are its only reading by line ends.
-use Rattle.std.proofs.Common.{◌≡◌, ℕ, ◌+◌, ◌-◌, ◌<◌, ◌≤◌, Bool, true, false, cond, eqb, ◌⊎◌, List, [], ◌∷◌, ◌++◌, length, get_or, take, sym, refl, ap, ◌∙◌, subst, inl, inr, ⊎_elim, append_assoc, arith, length-append}
+use Rattle.std.proofs.Common.{◌≡◌, ℕ, ◌+◌, ◌-◌, ◌<◌, ◌≤◌, Bool, true, false, cond, eqb, ◌⊎◌, List, [], ◌∷◌, ◌++◌, length, get_or, take, sym, refl, ap, ◌∙◌, subst, inl, inr, ⊎_elim, append_assoc, arith, length-append, Option, Some, None, Bor, MatchOption, unwrap_or}
 use Rattle.std.proofs.lemmas.List.{take_more, take_all, take_at, length_push, get_or_push}
 use Rattle.std.proofs.lemmas.Bool.{eqb-true, eqb-false, eq-eqb, ne_eqb, cond-true, cond-false}
 use Rattle.texts.specs.Pieces.{Lacks, pieces}
@@ -9,17 +9,13 @@ use Rattle.texts.proofs.Cuts.{lacks_take, pieces_some, pieces_cut, pieces_last, 
 
 -- The CR that ends a line.
 module _ (l : List ℕ) where
-  pub return_cut : get_or l (length l - 1) 0 ≡ 13 → without_return l ≡ take (length l - 1) l
+  return_cut : get_or l (length l - 1) 0 ≡ 13 → without_return l ≡ take (length l - 1) l
   unfolding without_return
   return_cut e = cond-true _ _ _ (eq-eqb _ 13 e)
 
-  pub return_none : (get_or l (length l - 1) 0 ≡ 13 → ⊥) → without_return l ≡ l
+  return_none : (get_or l (length l - 1) 0 ≡ 13 → ⊥) → without_return l ≡ l
   unfolding without_return
   return_none e = cond-false _ _ _ (ne_eqb _ 13 e)
-
-pub none_last : (l : List ℕ) → length l ≤ 0 → get_or l (length l - 1) 0 ≡ 13 → ⊥
-none_last [] le e = omega arith
-none_last (x ∷ l) le e = omega arith
 
 last_split : (l : List ℕ) → get_or l (length l - 1) 0 ≡ 13 → l ≡ take (length l - 1) l ++ 13 ∷ []
 last_split [] e = absurd (omega arith)
@@ -42,6 +38,11 @@ returned r =
 
 kept : (r : List ℕ) → NoReturn r → without_return r ≡ r
 kept r none = return_none r (λ e. none (take (length r - 1) r) (last_split r e))
+
+-- What is left of a line when a search for a CR at its end took it away.
+pub without_end : (l : List ℕ) (r : Option (Bor (List ℕ))) (d : Bor (List ℕ)) → MatchOption r (NoReturn l) (λ x. l ≡ x.now ++ 13 ∷ []) → d.now ≡ l → (unwrap_or r d).now ≡ without_return l
+without_end l None d none is = is ∙ sym (kept l none)
+without_end l (Some x) d e is = sym (ap without_return e ∙ returned x.now)
 
 -- A line up to an LF is a record and its end.
 abbrev Stripped : List ℕ → List ℕ → Type 0

@@ -9,12 +9,7 @@ use crate::pieces::cut_at;
 fn without_return(line: &[u8]) -> &[u8]
     ensures { result.now ≡ without_return line.now }
 {
-    let n = line.len();
-    if n > 0 && line[n - 1] == b'\r' {
-        &line[0..n - 1]
-    } else {
-        line
-    }
+    line.strip_suffix(b"\r").unwrap_or(line)
 }
 
 // Whether nothing is left of an input. What is left has one reading by line ends, which is its records.
