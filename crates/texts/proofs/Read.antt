@@ -55,7 +55,7 @@ stripped l h = go (eqb (get_or l (length l - 1) 0) 13) refl where
   go true is = (lacks_take 10 (length l - 1) l h, inl (last_split l (eqb-true _ 13 is)))
   go false is = (h, inr (refl, no_last l (eqb-false _ 13 is)))
 
-pub begins_line : (l rest : List ℕ) → Lacks 10 l → Begins (without_return l) rest (l ++ 10 ∷ rest)
+begins_line : (l rest : List ℕ) → Lacks 10 l → Begins (without_return l) rest (l ++ 10 ∷ rest)
 begins_line l rest h =
     let r = without_return l in
     let s = stripped l h in (
@@ -65,6 +65,10 @@ begins_line l rest h =
           (λ p. inr (ap (λ k. k ++ 10 ∷ rest) (sym p.0), subst NoReturn (sym p.0) p.1))
           s.1),
     )
+
+-- The same, of bytes and a record known by equations.
+pub begins_ended : (l r rest bs : List ℕ) → Lacks 10 l → bs ≡ l ++ 10 ∷ rest → r ≡ without_return l → Begins r rest bs
+begins_ended l r rest bs h whole is = subst (λ k. Begins k rest bs) (sym is) (subst (Begins _ rest) (sym whole) (begins_line l rest h))
 
 -- The records of a line that an LF ends, and of one that the end does.
 records_line : (l rest : List ℕ) → Lacks 10 l → records (l ++ 10 ∷ rest) ≡ without_return l ∷ records rest

@@ -28,10 +28,9 @@ fn first_record(rest: &[u8]) -> (&[u8], &[u8])
     ensures cuts { records rest.now ≡ result.0.now ∷ records result.1.now }
     ensures shorter { length result.1.now < length rest.now }
 {
-    let (line, more) = cut_at(rest, b'\n');
-    match more {
-        Some(after) => (without_return(line), after),
-        None => (line, &rest[rest.len()..]),
+    match cut_at(rest, b'\n') {
+        (line, Some(after)) => (without_return(line), after),
+        (line, None) => (line, b""),
     }
 }
 
