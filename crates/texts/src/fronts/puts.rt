@@ -39,16 +39,15 @@ impl Front {
     }
 
     // Puts bytes before the text.
+    #[inline(always)]
     pub(crate) fn put_all(&mut self, bytes: &[u8])
         requires { length bytes.now ≤ self.old.start }
         ensures text { text_of self.new ≡ bytes.now ++ text_of self.old }
         ensures room { self.old.start ≡ self.new.start + length bytes.now }
     {
-        let mut left = bytes.len();
-        while left > 0 {
-            left -= 1;
-            self.put(bytes[left]);
-        }
+        let end = self.start;
+        self.start -= bytes.len();
+        self.bytes[self.start..end].copy_from_slice(bytes);
     }
 
     // Puts the decimal digits of n before the text.
