@@ -1,13 +1,13 @@
 // An input cut into records: each is ended by CR LF, by LF or by the end of the input.
 ghost use Rattle.std.specs.Prelude.{◌≡◌, ◌<◌, ◌≤◌, true, false, [], ◌∷◌, length, IfSome, MatchOption};
-ghost use Rattle.texts.specs.Records.{records, without_return, feeds, Settled};
+ghost use Rattle.texts.specs.Records.{records, without_return as stripped, feeds, Settled};
 ghost use Rattle.texts.specs.Readings.{Begins, ReadByLineEnds};
 
 use crate::pieces::cut_at;
 
 // The line without the CR that ends it.
 fn without_return(line: &[u8]) -> &[u8]
-    ensures { result.now ≡ without_return line.now }
+    ensures { result.now ≡ stripped line.now }
 {
     line.strip_suffix(b"\r").unwrap_or(line)
 }

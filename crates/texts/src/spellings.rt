@@ -26,19 +26,27 @@ impl From<AllocError> for Unwritten {
     }
 }
 
+// Puts a verb and its comma before the text.
+fn put_verb(text: &mut Front, verb: Verb)
+    requires { 14 ≤ text.old.start }
+    ensures { text_of text.new ≡ field (word_of verb) (text_of text.old) }
+{
+    text.put(b',');
+    text.put_all(verb.word());
+}
+
 // The text of a verb and a vector.
 fn vector_text(verb: Verb, v: u64) -> Front
     ensures { text_of result ≡ field (word_of verb) (hex 16 v) }
 {
     let mut text = Front::empty();
     text.put_hex(v);
-    text.put(b',');
-    text.put_all(verb.word());
+    put_verb(&mut text, verb);
     text
 }
 
 // Puts a comma and a vector, where there is one, before the text.
-fn put_vector(text: &mut Front, v: Option<u64>)
+fn put_vector_after(text: &mut Front, v: Option<u64>)
     requires { 17 ≤ text.old.start }
     ensures text { text_of text.new ≡ vector_after v ++ text_of text.old }
     ensures room { text.old.start ≤ text.new.start + 17 }
@@ -59,10 +67,9 @@ fn number_text(verb: Verb, n: u16, v: Option<u64>) -> Option<Front>
         return None;
     }
     let mut text = Front::empty();
-    put_vector(&mut text, v);
+    put_vector_after(&mut text, v);
     text.put_decimal(n as u64);
-    text.put(b',');
-    text.put_all(verb.word());
+    put_verb(&mut text, verb);
     Some(text)
 }
 

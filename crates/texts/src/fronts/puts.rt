@@ -72,9 +72,7 @@ impl Front {
     {
         let mut left = v;
         let mut at = self.start;
-        let mut places = count;
-        while places > 0 {
-            places -= 1;
+        for _place in 0..count {
             at -= 1;
             self.bytes[at] = hex_digit((left % 16) as u8);
             left /= 16;
