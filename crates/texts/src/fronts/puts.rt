@@ -6,6 +6,7 @@ ghost use Rattle.texts.specs.Outputs.{Appended};
 
 use crate::fronts::Front;
 use crate::outputs::add;
+use itoa::write_digits;
 use std::alloc::AllocError;
 
 // The small hexadecimal digit that writes d.
@@ -56,12 +57,7 @@ impl Front {
         ensures text { text_of self.new ≡ decimal n ++ text_of self.old }
         ensures room { self.old.start ≤ self.new.start + 20 }
     {
-        let mut left = n;
-        while left >= 10 {
-            self.put(b'0' + (left % 10) as u8);
-            left /= 10;
-        }
-        self.put(b'0' + left as u8);
+        self.start = write_digits(n, &mut self.bytes, self.start);
     }
 
     // Puts the last `count` hexadecimal digits of v before the text.
