@@ -15,10 +15,7 @@ loop-place-preserved c =
       omega arith,
     )
 
-pub returns : goal.returns
-returns c =
+pub returns-clause-text : goal.returns-clause-text
+returns-clause-text c =
     let text = drop c.loop-place.at c.loop-place.self.bytes in
-    record {
-      text = sym (ap (λ l. l ++ text) (hex_none (c.args.count - c.loop-place._place) c.loop-place.left (omega arith))) ∙ c.loop-place.invariant.1;
-      room = omega arith;
-    }
+    sym (ap (λ l. l ++ text) (hex_none (c.args.count - c.loop-place._place) c.loop-place.left (omega arith))) ∙ c.loop-place.invariant.1
