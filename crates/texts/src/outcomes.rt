@@ -13,7 +13,7 @@ pub enum Outcome {
 }
 
 impl Outcome {
-    // The number by which a line names the outcome.
+    // The number by which a line names the outcome: `u8::from(outcome)` would not say which number.
     pub fn number(self) -> u8
         ensures { result ≡ outcome_number self }
     {

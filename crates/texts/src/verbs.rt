@@ -30,7 +30,7 @@ impl Verb {
         }
     }
 
-    // The verb whose word the bytes are.
+    // The verb whose word the bytes are. No `TryFrom`: its error would tell no more than `None`.
     pub(crate) fn read(bytes: &[u8]) -> Option<Verb>
         ensures { result ≡ verb_of bytes.now }
     {

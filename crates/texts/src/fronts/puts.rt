@@ -9,7 +9,7 @@ use crate::outputs::add;
 use itoa::write_digits;
 use std::alloc::AllocError;
 
-// The small hexadecimal digit that writes d.
+// The small hexadecimal digit that writes d. `char::from_digit` would give an `Option` that is never `None`.
 fn hex_digit(d: u8) -> u8
     requires { d < 16 }
     ensures { result ≡ digit_char d }
