@@ -41,24 +41,9 @@ fn push_entry(heap: Global, out: &mut Vec<u8>, plan: &Plan, e: Entry) -> Result<
         high: e.high,
         resource: e.resource,
     };
-    push_sheet_line(
-        out,
-        entry,
-        ShownCall::Release(e.low),
-        &first,
-    )?;
-    push_sheet_line(
-        out,
-        entry,
-        ShownCall::Lock(e.resource),
-        &second,
-    )?;
-    push_sheet_line(
-        out,
-        entry,
-        ShownCall::Release(e.high),
-        &third,
-    )
+    push_sheet_line(out, entry, ShownCall::Release(e.low), &first)?;
+    push_sheet_line(out, entry, ShownCall::Lock(e.resource), &second)?;
+    push_sheet_line(out, entry, ShownCall::Release(e.high), &third)
 }
 
 // Adds the lines of entries of the plan's table.
