@@ -1,6 +1,8 @@
 -- Laws of bytes cut at a byte.
-use Rattle.std.proofs.Common.{◌≡◌, ℕ, zero, suc, ◌+◌, ◌<◌, Bool, true, false, cond, eqb, List, [], ◌∷◌, ◌++◌, length, get_or, take, drop, sym, refl, ap, ◌∙◌, subst, append_assoc, append-nil}
-use Rattle.std.proofs.lemmas.List.{take_more, take-append-drop, drop_more}
+use Rattle.std.proofs.Common.{◌≡◌, ℕ, zero, suc, ◌+◌, ◌<◌, ◌==◌, ◌≤◌, not, Some, None, arith, Bool, true, false, cond, eqb, List, [], ◌∷◌, ◌++◌, length, get_or, take, drop, sym, refl, ap, ◌∙◌, subst, append_assoc, append-nil}
+use Rattle.std.proofs.lemmas.List.{take-append-drop, drop_more}
+use Rattle.std.specs.List.{position, position_or_len}
+use Rattle.std.proofs.lemmas.List.Quantifiers.{position-Some}
 use Rattle.std.proofs.lemmas.Bool.{eqb-true, eqb-false, eq-eqb, ne_eqb, cond-true, cond-false}
 use Rattle.texts.specs.Pieces.{Lacks, pieces, pieces_from}
 
@@ -8,9 +10,28 @@ lacks_push : (b : ℕ) (xs : List ℕ) (x : ℕ) → Lacks b xs → (x ≡ b →
 lacks_push b [] x h other = (other, tt)
 lacks_push b (y ∷ xs) x h other = (h.0, lacks_push b xs x h.1 other)
 
--- One byte more that is not b.
-pub lacks_more : (b : ℕ) (xs : List ℕ) (i : ℕ) → i < length xs → Lacks b (take i xs) → (get_or xs i 0 ≡ b → ⊥) → Lacks b (take (i + 1) xs)
-lacks_more b xs i lt h other = subst (Lacks b) (sym (take_more xs i 0 lt)) (lacks_push b (take i xs) (get_or xs i 0) h other)
+-- Where a search for b ends.
+pub there : (b : ℕ) (xs : List ℕ) (i : ℕ) → position (λ x. x == b) xs ≡ Some i → (i < length xs) × (get_or xs i 0 ≡ b)
+there b xs i e = let p = position-Some (λ x. x == b) xs i 0 e in (p.0, eqb-true _ b p.1)
+
+lacks_below : (b n : ℕ) (xs : List ℕ) → ((k : ℕ) → k < n → get_or xs k 0 ≡ b → ⊥) → Lacks b (take n xs)
+lacks_below b zero xs h = tt
+lacks_below b (suc n) [] h = tt
+lacks_below b (suc n) (x ∷ xs) h = (h 0 (omega arith), lacks_below b n xs (λ k l. h (suc k) (omega arith)))
+
+pub lacks_before : (b : ℕ) (xs : List ℕ) (i : ℕ) → position (λ x. x == b) xs ≡ Some i → Lacks b (take i xs)
+lacks_before b xs i e = lacks_below b i xs (λ k l. eqb-false _ b ((position-Some (λ x. x == b) xs i 0 e).2 k l))
+
+lacks_past : (b : ℕ) (xs : List ℕ) → length xs ≤ position_or_len (λ x. x == b) xs → Lacks b xs
+lacks_past b [] h = tt
+lacks_past b (x ∷ xs) h = go (x == b) refl h (lacks_past b xs)
+  where
+    go : (t : Bool) → (x == b) ≡ t → suc (length xs) ≤ cond (not t) (1 + position_or_len (λ y. y == b) xs) 0 → (length xs ≤ position_or_len (λ y. y == b) xs → Lacks b xs) → Lacks b (x ∷ xs)
+    go true is le more = absurd (omega arith)
+    go false is le more = (eqb-false x b is, more (omega arith))
+
+pub lacks_all : (b : ℕ) (xs : List ℕ) → position (λ x. x == b) xs ≡ None → Lacks b xs
+lacks_all b xs e = lacks_past b xs (grind arith)
 
 pub lacks_take : (b n : ℕ) (xs : List ℕ) → Lacks b xs → Lacks b (take n xs)
 lacks_take b zero xs h = tt

@@ -6,4 +6,3 @@ pub mod Asked
 pub mod Spelt
 pub mod Fronted
 pub mod Backs
-pub mod SheetLines

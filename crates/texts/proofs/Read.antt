@@ -1,5 +1,5 @@
 -- The records of an input are its only reading by line ends.
-use Rattle.std.proofs.Common.{◌≡◌, ℕ, ◌+◌, ◌-◌, ◌<◌, ◌≤◌, Bool, true, false, cond, eqb, ◌⊎◌, List, [], ◌∷◌, ◌++◌, length, get_or, take, sym, refl, ap, ◌∙◌, subst, inl, inr, ⊎_elim, append_assoc, arith, length-append}
+use Rattle.std.proofs.Common.{◌≡◌, ℕ, ◌+◌, ◌-◌, ◌<◌, Bool, true, false, cond, eqb, ◌⊎◌, List, [], ◌∷◌, ◌++◌, length, get_or, take, sym, refl, ap, ◌∙◌, subst, inl, inr, ⊎_elim, append_assoc, arith, length-append, Option, Some, None, Bor, MatchOption, unwrap_or}
 use Rattle.std.proofs.lemmas.List.{take_more, take_all, take_at, length_push, get_or_push}
 use Rattle.std.proofs.lemmas.Bool.{eqb-true, eqb-false, eq-eqb, ne_eqb, cond-true, cond-false}
 use Rattle.texts.specs.Pieces.{Lacks, pieces}
@@ -9,17 +9,13 @@ use Rattle.texts.proofs.Cuts.{lacks_take, pieces_some, pieces_cut, pieces_last, 
 
 -- The CR that ends a line.
 module _ (l : List ℕ) where
-  pub return_cut : get_or l (length l - 1) 0 ≡ 13 → without_return l ≡ take (length l - 1) l
+  return_cut : get_or l (length l - 1) 0 ≡ 13 → without_return l ≡ take (length l - 1) l
   unfolding without_return
   return_cut e = cond-true _ _ _ (eq-eqb _ 13 e)
 
-  pub return_none : (get_or l (length l - 1) 0 ≡ 13 → ⊥) → without_return l ≡ l
+  return_none : (get_or l (length l - 1) 0 ≡ 13 → ⊥) → without_return l ≡ l
   unfolding without_return
   return_none e = cond-false _ _ _ (ne_eqb _ 13 e)
-
-pub none_last : (l : List ℕ) → length l ≤ 0 → get_or l (length l - 1) 0 ≡ 13 → ⊥
-none_last [] le e = omega arith
-none_last (x ∷ l) le e = omega arith
 
 last_split : (l : List ℕ) → get_or l (length l - 1) 0 ≡ 13 → l ≡ take (length l - 1) l ++ 13 ∷ []
 last_split [] e = absurd (omega arith)
@@ -43,6 +39,11 @@ returned r =
 kept : (r : List ℕ) → NoReturn r → without_return r ≡ r
 kept r none = return_none r (λ e. none (take (length r - 1) r) (last_split r e))
 
+-- What is left of a line when a search for a CR at its end took it away.
+pub without_end : (l : List ℕ) (r : Option (Bor (List ℕ))) (d : Bor (List ℕ)) → MatchOption r (NoReturn l) (λ x. l ≡ x.now ++ 13 ∷ []) → d.now ≡ l → (unwrap_or r d).now ≡ without_return l
+without_end l None d none is = is ∙ sym (kept l none)
+without_end l (Some x) d e is = sym (ap without_return e ∙ returned x.now)
+
 -- A line up to an LF is a record and its end.
 abbrev Stripped : List ℕ → List ℕ → Type 0
 Stripped l r = Lacks 10 r × ((l ≡ r ++ 13 ∷ []) ⊎ ((r ≡ l) × NoReturn l))
@@ -54,7 +55,7 @@ stripped l h = go (eqb (get_or l (length l - 1) 0) 13) refl where
   go true is = (lacks_take 10 (length l - 1) l h, inl (last_split l (eqb-true _ 13 is)))
   go false is = (h, inr (refl, no_last l (eqb-false _ 13 is)))
 
-pub begins_line : (l rest : List ℕ) → Lacks 10 l → Begins (without_return l) rest (l ++ 10 ∷ rest)
+begins_line : (l rest : List ℕ) → Lacks 10 l → Begins (without_return l) rest (l ++ 10 ∷ rest)
 begins_line l rest h =
     let r = without_return l in
     let s = stripped l h in (
@@ -64,6 +65,10 @@ begins_line l rest h =
           (λ p. inr (ap (λ k. k ++ 10 ∷ rest) (sym p.0), subst NoReturn (sym p.0) p.1))
           s.1),
     )
+
+-- The same, of bytes and a record known by equations.
+pub begins_ended : (l r rest bs : List ℕ) → Lacks 10 l → bs ≡ l ++ 10 ∷ rest → r ≡ without_return l → Begins r rest bs
+begins_ended l r rest bs h whole is = subst (λ k. Begins k rest bs) (sym is) (subst (Begins _ rest) (sym whole) (begins_line l rest h))
 
 -- The records of a line that an LF ends, and of one that the end does.
 records_line : (l rest : List ℕ) → Lacks 10 l → records (l ++ 10 ∷ rest) ≡ without_return l ∷ records rest

@@ -18,9 +18,6 @@ use Rattle.texts.specs.Spells.{Writes, Vector, Number, Spells, AsksWhatItSpells}
 use Rattle.texts.proofs.Cuts.{pieces_cut, pieces_last, rejoin, rejoined}
 use Rattle.texts.proofs.Numbers.{digits_from, digits_to, number_is}
 
-pub none_some : {X : Type 0} {x : X} (P : Type 0) → None ≡ Some x → P
-none_some P e = let z : ◌≡◌ {A = ℕ} 0 1 = cc in absurd (omega arith)
-
 -- Numbers: a field is read as n just where it writes n.
 written : (radix most : ℕ) (ds : List ℕ) (n : ℕ) → number radix most ds ≡ Some n → Writes radix most ds n
 unfolding number
@@ -30,7 +27,7 @@ written radix most ds n e = go (is_number radix most ds) refl e where
       let p = and_parts (ltb 0 (length ds)) _ t in
       let q = and_parts (leb (length ds) most) _ p.1 in
       record { some = ltb-true 0 _ p.0; short = leb-true _ _ q.0; digits = digits_from radix ds q.1; is = cc }
-  go false t h = none_some _ h
+  go false t h = absurd cc
 
 reads : (radix most : ℕ) (ds : List ℕ) (n : ℕ) → Writes radix most ds n → number radix most ds ≡ Some n
 reads radix most ds n w = sym (number_is radix most ds w.some w.short (digits_to radix ds w.digits)) ∙ ap Some w.is
@@ -68,7 +65,7 @@ spelt_read (Test n) bs h = one 10 3 Tests bs (codes "test,") Test n h.0 (omega a
 
 -- What is read is spelt.
 named_word : (w : List ℕ) (vs : List Verb) (v : Verb) → named w vs ≡ Some v → w ≡ word_of v
-named_word w [] v e = none_some _ e
+named_word w [] v e = absurd cc
 named_word w (x ∷ vs) v e = go (bytes_eq w (word_of x)) refl e (named_word w vs v) where
   go : (t : Bool) → bytes_eq w (word_of x) ≡ t → cond t (Some x) (named w vs) ≡ Some v → (named w vs ≡ Some v → w ≡ word_of v) → w ≡ word_of v
   go true is h on = (bytes_eq-Decides w (word_of x)).0 is ∙ ap word_of (let same : x ≡ v = cc in same)
@@ -77,14 +74,14 @@ named_word w (x ∷ vs) v e = go (bytes_eq w (word_of x)) refl e (named_word w v
 from_one : (radix most : ℕ) (make : ℕ → Call) (q : Call) (d : List ℕ) → option_map make (number radix most d) ≡ Some q → (n : ℕ) × Writes radix most d n × (make n ≡ q)
 from_one radix most make q d e = go (number radix most d) refl e where
   go : (o : Option ℕ) → number radix most d ≡ o → option_map make o ≡ Some q → (n : ℕ) × Writes radix most d n × (make n ≡ q)
-  go None is h = none_some _ h
+  go None is h = absurd cc
   go (Some n) is h = (n, written radix most d n is, (let same : make n ≡ q = cc in same))
 
 from_two : (make : ℕ → Option ℕ → Call) (q : Call) (d e : List ℕ) → both make (number_field d) (vector_field e) ≡ Some q → (n : ℕ) × (v : ℕ) × Number d n × Vector e v × (make n (Some v) ≡ q)
 from_two make q d e h = go (number_field d) (vector_field e) refl refl h where
   go : (o p : Option ℕ) → number_field d ≡ o → vector_field e ≡ p → both make o p ≡ Some q → (n : ℕ) × (v : ℕ) × Number d n × Vector e v × (make n (Some v) ≡ q)
-  go None p i j k = none_some _ k
-  go (Some n) None i j k = none_some _ k
+  go None p i j k = absurd cc
+  go (Some n) None i j k = absurd cc
   go (Some n) (Some v) i j k = (n, v, written 10 3 d n i, written 16 16 e v j, (let same : make n (Some v) ≡ q = cc in same))
 
 to_one : (q : Call) (radix most : ℕ) (make : ℕ → Call) (word d : List ℕ) → ((n : ℕ) → Writes radix most d n → Spells (make n) (word ++ d)) → option_map make (number radix most d) ≡ Some q → Spells q (word ++ d)
@@ -94,44 +91,44 @@ to_two : (q : Call) (make : ℕ → Option ℕ → Call) (word d e : List ℕ) �
 to_two q make word d e spell k = let h = from_two make q d e k in subst (λ x. Spells x (word ++ (d ++ 44 ∷ e))) h.4 (spell h.0 h.1 h.2 h.3)
 
 spelt_bare : (v : Verb) (q : Call) → asked_bare v ≡ Some q → Spells q (word_of v)
-spelt_bare Releases q e = none_some _ e
-spelt_bare Locks q e = none_some _ e
-spelt_bare Unlocks q e = none_some _ e
+spelt_bare Releases q e = absurd cc
+spelt_bare Locks q e = absurd cc
+spelt_bare Unlocks q e = absurd cc
 spelt_bare Exits q e = subst (λ x. Spells x (codes "exit")) (let same : Exit ≡ q = cc in same) refl
-spelt_bare Signals q e = none_some _ e
-spelt_bare SignalReleases q e = none_some _ e
-spelt_bare Tests q e = none_some _ e
+spelt_bare Signals q e = absurd cc
+spelt_bare SignalReleases q e = absurd cc
+spelt_bare Tests q e = absurd cc
 
 spelt_one : (v : Verb) (a : List ℕ) (q : Call) → asked_one v a ≡ Some q → Spells q (word_of v ++ 44 ∷ a)
 spelt_one Releases a q e = to_one q 16 16 Release (codes "release,") a (λ n w. (a, w, refl)) e
 spelt_one Locks a q e = to_one q 10 3 Lock (codes "lock,") a (λ n w. (a, w, refl)) e
 spelt_one Unlocks a q e = to_one q 10 3 Unlock (codes "unlock,") a (λ n w. (a, w, refl)) e
-spelt_one Exits a q e = none_some _ e
+spelt_one Exits a q e = absurd cc
 spelt_one Signals a q e = to_one q 10 3 (λ n. Signal n None) (codes "signal,") a (λ n w. (a, w, refl)) e
 spelt_one SignalReleases a q e = to_one q 10 3 (λ n. SignalRelease n None) (codes "signalrelease,") a (λ n w. (a, w, refl)) e
 spelt_one Tests a q e = to_one q 10 3 Test (codes "test,") a (λ n w. (a, w, refl)) e
 
 spelt_two : (v : Verb) (a b : List ℕ) (q : Call) → asked_two v a b ≡ Some q → Spells q (word_of v ++ 44 ∷ (a ++ 44 ∷ b))
-spelt_two Releases a b q e = none_some _ e
-spelt_two Locks a b q e = none_some _ e
-spelt_two Unlocks a b q e = none_some _ e
-spelt_two Exits a b q e = none_some _ e
+spelt_two Releases a b q e = absurd cc
+spelt_two Locks a b q e = absurd cc
+spelt_two Unlocks a b q e = absurd cc
+spelt_two Exits a b q e = absurd cc
 spelt_two Signals a b q e = to_two q Signal (codes "signal,") a b (λ n v w u. (a, b, w, u, refl)) e
 spelt_two SignalReleases a b q e = to_two q SignalRelease (codes "signalrelease,") a b (λ n v w u. (a, b, w, u, refl)) e
-spelt_two Tests a b q e = none_some _ e
+spelt_two Tests a b q e = absurd cc
 
 spelt : (v : Verb) (fs : List (List ℕ)) (q : Call) → asked_with v fs ≡ Some q → Spells q (rejoin 44 (word_of v ∷ fs))
 spelt v [] q e = spelt_bare v q e
 spelt v (a ∷ []) q e = spelt_one v a q e
 spelt v (a ∷ b ∷ []) q e = spelt_two v a b q e
-spelt v (a ∷ b ∷ c ∷ fs) q e = none_some _ e
+spelt v (a ∷ b ∷ c ∷ fs) q e = absurd cc
 
 spelt_as : (w : List ℕ) (fs : List (List ℕ)) (q : Call) (o : Option Verb) → verb_of w ≡ o → asked_as o fs ≡ Some q → Spells q (rejoin 44 (w ∷ fs))
-spelt_as w fs q None is e = none_some _ e
+spelt_as w fs q None is e = absurd cc
 spelt_as w fs q (Some v) is e = subst (λ x. Spells q (rejoin 44 (x ∷ fs))) (sym (named_word w verbs v is)) (spelt v fs q e)
 
 spelt_by : (fs : List (List ℕ)) (q : Call) → asked_by fs ≡ Some q → Spells q (rejoin 44 fs)
-spelt_by [] q e = none_some _ e
+spelt_by [] q e = absurd cc
 spelt_by (w ∷ fs) q e = spelt_as w fs q (verb_of w) refl e
 
 read_spelt : (q : Call) (bs : List ℕ) → asked bs ≡ Some q → Spells q bs

@@ -1,5 +1,5 @@
 -- The records of an input.
-use Rattle.std.specs.Prelude.{◌≡◌, ℕ, ◌-◌, cond, List, [], ◌∷◌, ◌++◌, length, take, count_by, ◌==◌, nat_eq, slice_index}
+use Rattle.std.specs.Prelude.{◌≡◌, ℕ, ◌-◌, cond, List, [], ◌∷◌, ◌++◌, length, take, count_by, ◌==◌, slice_index}
 use Rattle.texts.specs.Pieces.{pieces}
 
 -- A line without the CR that ends it.
@@ -19,7 +19,7 @@ records bs = among_lines (pieces 10 bs)
 
 -- How many LFs there are.
 abbrev pub feeds : List ℕ → ℕ
-feeds bs = count_by (λ b. nat_eq b 10) bs
+feeds bs = count_by (λ b. b == 10) bs
 
 -- The first n records of the bytes bs are settled: they stay the same, whatever follows.
 abbrev pub Settled : ℕ → List ℕ → Type 0

@@ -1,22 +1,9 @@
 // Numbers read from digits.
 ghost use Rattle.std.specs.Prelude.{◌≡◌, ◌^◌, ◌≤◌};
-ghost use Rattle.std.specs.Char.{digit_value};
 ghost use Rattle.texts.specs.Digits.{number, number_field, vector_field};
 
-// What a byte is worth as a digit; 36 where it is none.
-fn digit_value(b: u8) -> u8
-    ensures { result ≡ digit_value b }
-{
-    match b {
-        b'0'..=b'9' => b - b'0',
-        b'A'..=b'Z' => b - b'A' + 10,
-        b'a'..=b'z' => b - b'a' + 10,
-        _ => 36,
-    }
-}
-
 // The number that a field of 1 to `most` digits spells; none where it has anything else.
-fn read_digits(field: &[u8], radix: u64, most: usize) -> Option<u64>
+fn read_digits(field: &[u8], radix: u32, most: usize) -> Option<u64>
     requires radix { (2 ≤ radix) × (radix ≤ 36) }
     requires room { radix ^ most ≤ 2 ^ 64 }
     ensures { result ≡ number radix most field.now }
@@ -24,13 +11,11 @@ fn read_digits(field: &[u8], radix: u64, most: usize) -> Option<u64>
     if field.is_empty() || field.len() > most {
         return None;
     }
+    // A loop, since the closure of a fold could not say that its product fits.
     let mut value = 0;
     for b in field {
-        let digit = digit_value(*b) as u64;
-        if digit >= radix {
-            return None;
-        }
-        value = value * radix + digit;
+        let digit = char::from(*b).to_digit(radix)?;
+        value = value * radix as u64 + digit as u64;
     }
     Some(value)
 }
@@ -39,10 +24,7 @@ fn read_digits(field: &[u8], radix: u64, most: usize) -> Option<u64>
 pub(crate) fn read_number(field: &[u8]) -> Option<u16>
     ensures { result ≡ number_field field.now }
 {
-    match read_digits(field, 10, 3) {
-        Some(n) => Some(n as u16),
-        None => None,
-    }
+    Some(read_digits(field, 10, 3)? as u16)
 }
 
 // A task vector: 1 to 16 hexadecimal digits.

@@ -4,7 +4,7 @@ ghost use Rattle.std.specs.Prelude.{◌≤◌};
 
 pub mod puts;
 
-// The text is what stands from `start` on.
+// The text is what stands from `start` on. An `ArrayVec` grows at its end, where hexadecimal digits come last first.
 #[derive(Drop)]
 pub struct Front {
     bytes: [u8; 128],

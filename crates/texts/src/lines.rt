@@ -18,16 +18,25 @@ pub(crate) fn put_number(text: &mut Front, n: u64)
     text.put_decimal(n);
 }
 
+// Puts a number, where there is one, before the text.
+pub(crate) fn put_some(text: &mut Front, n: Option<u8>)
+    requires { 20 ≤ text.old.start }
+    ensures text { text_of text.new ≡ optional n ++ text_of text.old }
+    ensures room { text.old.start ≤ text.new.start + 20 }
+{
+    if let Some(x) = n {
+        text.put_decimal(x as u64);
+    }
+}
+
 // Puts a number, where there is one, and its comma before the text.
 pub(crate) fn put_optional(text: &mut Front, n: Option<u8>)
     requires { 21 ≤ text.old.start }
     ensures text { text_of text.new ≡ field (optional n) (text_of text.old) }
     ensures room { text.old.start ≤ text.new.start + 21 }
 {
-    match n {
-        Some(x) => put_number(text, x as u64),
-        None => text.put(b','),
-    }
+    text.put(b',');
+    put_some(text, n);
 }
 
 // Puts a task vector and its comma before the text.
@@ -46,10 +55,9 @@ fn put_mark(text: &mut Front, mark: Option<bool>)
     ensures text { text_of text.new ≡ (flag mark ++ line_end) ++ text_of text.old }
     ensures room { text.old.start ≤ text.new.start + 3 }
 {
-    match mark {
-        Some(true) => text.put_all(b"1\r\n"),
-        Some(false) => text.put_all(b"0\r\n"),
-        None => text.put_all(b"\r\n"),
+    text.put_all(b"\r\n");
+    if let Some(holds) = mark {
+        text.put(b'0' + holds as u8);
     }
 }
 

@@ -5,7 +5,7 @@ ghost use Rattle.texts.specs.Outcomes.{outcome_number};
 use machine::Refusal;
 
 // What came of a record: its call was accepted, or was refused, or it spells no call.
-#[derive(Clone, Copy)]
+#[derive(Clone, Copy, PartialEq, Debug)]
 pub enum Outcome {
     Accepted,
     Refused(Refusal),
@@ -13,7 +13,7 @@ pub enum Outcome {
 }
 
 impl Outcome {
-    // The number by which a line names the outcome.
+    // The number by which a line names the outcome: `u8::from(outcome)` would not say which number.
     pub fn number(self) -> u8
         ensures { result ≡ outcome_number self }
     {
@@ -27,7 +27,7 @@ impl Outcome {
 
 // The outcome of a record, and then the running task, the vector of waiting tasks, the system ceiling, and the
 // mark that an accepted test found.
-#[derive(Clone, Copy)]
+#[derive(Clone, Copy, PartialEq, Debug)]
 pub struct Report {
     pub outcome: Outcome,
     pub running: Option<u8>,

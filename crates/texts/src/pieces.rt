@@ -1,19 +1,13 @@
 // Bytes cut at a byte: lines end at a line feed, and fields at a comma.
-ghost use Rattle.std.specs.Prelude.{◌≡◌, ◌<◌, ◌≤◌, [], ◌∷◌, ◌++◌, length, take, MatchOption, slice_index};
+ghost use Rattle.std.specs.Prelude.{◌≡◌, [], ◌∷◌, ◌++◌, ◌==◌, MatchOption};
+ghost use Rattle.std.specs.List.{position};
 ghost use Rattle.texts.specs.Pieces.{Lacks, pieces};
 
-// The place of the first byte that is b; the length where there is none.
-fn place(bytes: &[u8], b: u8) -> usize
-    ensures within { result ≤ length bytes.now }
-    ensures before { Lacks b (take result bytes.now) }
-    ensures found { result < length bytes.now → slice_index bytes.now result ≡ b }
+// The place of the first byte that is b.
+fn place(bytes: &[u8], b: u8) -> Option<usize>
+    ensures { result ≡ position (λ x. x == b) bytes.now }
 {
-    for (i, x) in bytes.iter().enumerate() {
-        if *x == b {
-            return i;
-        }
-    }
-    bytes.len()
+    bytes.iter().position(|x| *x == b)
 }
 
 // The bytes before the first b, and those after it where there is one.
@@ -22,10 +16,8 @@ pub(crate) fn cut_at(bytes: &[u8], b: u8) -> (&[u8], Option<&[u8]>)
     ensures rest { MatchOption result.1 (bytes.now ≡ result.0.now) (λ rest. bytes.now ≡ result.0.now ++ b ∷ rest.now) }
     ensures cuts { MatchOption result.1 (pieces b bytes.now ≡ result.0.now ∷ []) (λ rest. pieces b bytes.now ≡ result.0.now ∷ pieces b rest.now) }
 {
-    let n = place(bytes, b);
-    if n < bytes.len() {
-        (&bytes[0..n], Some(&bytes[n + 1..]))
-    } else {
-        (bytes, None)
+    match place(bytes, b) {
+        Some(n) => (&bytes[..n], Some(&bytes[n + 1..])),
+        None => (bytes, None),
     }
 }

@@ -1,20 +1,15 @@
 // An input cut into records: each is ended by CR LF, by LF or by the end of the input.
 ghost use Rattle.std.specs.Prelude.{◌≡◌, ◌<◌, ◌≤◌, true, false, [], ◌∷◌, length, IfSome, MatchOption};
-ghost use Rattle.texts.specs.Records.{records, without_return, feeds, Settled};
+ghost use Rattle.texts.specs.Records.{records, without_return as stripped, feeds, Settled};
 ghost use Rattle.texts.specs.Readings.{Begins, ReadByLineEnds};
 
 use crate::pieces::cut_at;
 
 // The line without the CR that ends it.
 fn without_return(line: &[u8]) -> &[u8]
-    ensures { result.now ≡ without_return line.now }
+    ensures { result.now ≡ stripped line.now }
 {
-    let n = line.len();
-    if n > 0 && line[n - 1] == b'\r' {
-        &line[0..n - 1]
-    } else {
-        line
-    }
+    line.strip_suffix(b"\r").unwrap_or(line)
 }
 
 // Whether nothing is left of an input. What is left has one reading by line ends, which is its records.
@@ -33,10 +28,9 @@ fn first_record(rest: &[u8]) -> (&[u8], &[u8])
     ensures cuts { records rest.now ≡ result.0.now ∷ records result.1.now }
     ensures shorter { length result.1.now < length rest.now }
 {
-    let (line, more) = cut_at(rest, b'\n');
-    match more {
-        Some(after) => (without_return(line), after),
-        None => (line, &rest[rest.len()..]),
+    match cut_at(rest, b'\n') {
+        (line, Some(after)) => (without_return(line), after),
+        (line, None) => (line, b""),
     }
 }
 
@@ -54,7 +48,8 @@ pub fn cut_record(rest: &[u8]) -> Option<(&[u8], &[u8])>
     }
 }
 
-// How many line ends a short row of bytes has. Its count has 8 bits, so that a row is counted 16 bytes at a time.
+// How many line ends a short row of bytes has. Its count has 8 bits, so that a row is counted 16 bytes at a time:
+// `filter` and `count` over all the bytes take a tenth more instructions of a whole run.
 fn few_line_ends(row: &[u8]) -> u8
     requires { length row.now ≤ 128 }
     ensures { result ≡ feeds row.now }

@@ -6,7 +6,7 @@ ghost use Rattle.texts.specs.Lines.{field};
 ghost use Rattle.texts.specs.Sheets.{call_text, entry_part, report_part, sheet_line};
 
 use crate::fronts::Front;
-use crate::lines::{put_number, put_optional, put_vector};
+use crate::lines::{put_number, put_optional, put_some, put_vector};
 use crate::outcomes::Report;
 use plan::entry::Entry;
 use std::alloc::AllocError;
@@ -26,6 +26,7 @@ fn put_call(text: &mut Front, call: ShownCall)
 {
     match call {
         ShownCall::Release(t) => {
+            // Callers may pass any number, and tasks are at most 63.
             let task = t.min(63);
             text.put_digits(1 << task, task / 4 + 1);
             text.put_all(b"release ");
@@ -56,9 +57,7 @@ fn report_text(report: &Report) -> Front
 {
     let mut text = Front::empty();
     text.put_all(b"\r\n");
-    if let Some(c) = report.ceiling {
-        text.put_decimal(c as u64);
-    }
+    put_some(&mut text, report.ceiling);
     put_vector(&mut text, report.waiting);
     put_optional(&mut text, report.running);
     put_number(&mut text, report.outcome.number() as u64);

@@ -3,11 +3,13 @@ ghost use Rattle.std.specs.Prelude.{◌≡◌, ◌+◌, ◌≤◌, true, false, 
 ghost use Rattle.texts.specs.Fronts.{text_of, hex};
 ghost use Rattle.texts.specs.Lines.{field};
 ghost use Rattle.texts.specs.Verbs.{word_of};
+ghost use Rattle.texts.specs.declared.spellings.Unwritten.TheVariants.{NoMemory};
 ghost use Rattle.texts.specs.Spelling.{vector_after, numbered, is_short, has_record, record_of, FitsVector, Fits, Spelt, ReadsBack};
 
 use crate::fronts::Front;
 use crate::verbs::Verb;
 use machine::Call;
+use std::alloc::AllocError;
 
 // Why a call was not written: it has no record, or memory is wanting.
 #[derive(Clone, Copy, PartialEq, Debug)]
@@ -16,19 +18,35 @@ pub enum Unwritten {
     NoMemory,
 }
 
+impl From<AllocError> for Unwritten {
+    ghost from_gives = { λ _ why. why ≡ NoMemory };
+
+    fn from(_: AllocError) -> Unwritten {
+        Unwritten::NoMemory
+    }
+}
+
+// Puts a verb and its comma before the text.
+fn put_verb(text: &mut Front, verb: Verb)
+    requires { 14 ≤ text.old.start }
+    ensures { text_of text.new ≡ field (word_of verb) (text_of text.old) }
+{
+    text.put(b',');
+    text.put_all(verb.word());
+}
+
 // The text of a verb and a vector.
 fn vector_text(verb: Verb, v: u64) -> Front
     ensures { text_of result ≡ field (word_of verb) (hex 16 v) }
 {
     let mut text = Front::empty();
     text.put_hex(v);
-    text.put(b',');
-    text.put_all(verb.word());
+    put_verb(&mut text, verb);
     text
 }
 
 // Puts a comma and a vector, where there is one, before the text.
-fn put_vector(text: &mut Front, v: Option<u64>)
+fn put_vector_after(text: &mut Front, v: Option<u64>)
     requires { 17 ≤ text.old.start }
     ensures text { text_of text.new ≡ vector_after v ++ text_of text.old }
     ensures room { text.old.start ≤ text.new.start + 17 }
@@ -49,10 +67,9 @@ fn number_text(verb: Verb, n: u16, v: Option<u64>) -> Option<Front>
         return None;
     }
     let mut text = Front::empty();
-    put_vector(&mut text, v);
+    put_vector_after(&mut text, v);
     text.put_decimal(n as u64);
-    text.put(b',');
-    text.put_all(verb.word());
+    put_verb(&mut text, verb);
     Some(text)
 }
 
@@ -96,11 +113,6 @@ pub fn push_call(out: &mut Vec<u8>, call: &Call) -> Result<(), Unwritten>
     ensures writes { Spelt call.now out.old result out.new }
     ensures law { ReadsBack call.now }
 {
-    let Some(text) = record_text(call) else {
-        return Err(Unwritten::NoRecord);
-    };
-    match text.add_to(out) {
-        Ok(()) => Ok(()),
-        Err(_) => Err(Unwritten::NoMemory),
-    }
+    let text = record_text(call).ok_or(Unwritten::NoRecord)?;
+    Ok(text.add_to(out)?)
 }

@@ -1,10 +1,9 @@
 // The words that records begin with.
 ghost use Rattle.std.specs.Prelude.{◌≡◌};
-ghost use Rattle.std.specs.Str.{bytes_eq};
 ghost use Rattle.texts.specs.Verbs.{word_of, verb_of};
 
 // What a record asks, by its first field.
-#[derive(Clone, Copy)]
+#[derive(Clone, Copy, PartialEq, Debug)]
 pub enum Verb {
     Releases,
     Locks,
@@ -31,33 +30,19 @@ impl Verb {
         }
     }
 
-    // Whether the bytes are the word of the verb.
-    fn is_spelt(self, bytes: &[u8]) -> bool
-        ensures { result ≡ bytes_eq bytes.now (word_of self) }
-    {
-        bytes == self.word()
-    }
-
-    // The verb whose word the bytes are.
+    // The verb whose word the bytes are. No `TryFrom`: its error would tell no more than `None`.
     pub(crate) fn read(bytes: &[u8]) -> Option<Verb>
         ensures { result ≡ verb_of bytes.now }
     {
-        if Verb::Releases.is_spelt(bytes) {
-            Some(Verb::Releases)
-        } else if Verb::Exits.is_spelt(bytes) {
-            Some(Verb::Exits)
-        } else if Verb::Locks.is_spelt(bytes) {
-            Some(Verb::Locks)
-        } else if Verb::Unlocks.is_spelt(bytes) {
-            Some(Verb::Unlocks)
-        } else if Verb::Signals.is_spelt(bytes) {
-            Some(Verb::Signals)
-        } else if Verb::SignalReleases.is_spelt(bytes) {
-            Some(Verb::SignalReleases)
-        } else if Verb::Tests.is_spelt(bytes) {
-            Some(Verb::Tests)
-        } else {
-            None
+        match bytes {
+            b"release" => Some(Verb::Releases),
+            b"lock" => Some(Verb::Locks),
+            b"unlock" => Some(Verb::Unlocks),
+            b"exit" => Some(Verb::Exits),
+            b"signal" => Some(Verb::Signals),
+            b"signalrelease" => Some(Verb::SignalReleases),
+            b"test" => Some(Verb::Tests),
+            _ => None,
         }
     }
 }

@@ -6,9 +6,10 @@ ghost use Rattle.texts.specs.Outputs.{Appended};
 
 use crate::fronts::Front;
 use crate::outputs::add;
+use itoa::write_digits;
 use std::alloc::AllocError;
 
-// The small hexadecimal digit that writes d.
+// The small hexadecimal digit that writes d. `char::from_digit` would give an `Option` that is never `None`.
 fn hex_digit(d: u8) -> u8
     requires { d < 16 }
     ensures { result ≡ digit_char d }
@@ -39,16 +40,15 @@ impl Front {
     }
 
     // Puts bytes before the text.
+    #[inline(always)]
     pub(crate) fn put_all(&mut self, bytes: &[u8])
         requires { length bytes.now ≤ self.old.start }
         ensures text { text_of self.new ≡ bytes.now ++ text_of self.old }
         ensures room { self.old.start ≡ self.new.start + length bytes.now }
     {
-        let mut left = bytes.len();
-        while left > 0 {
-            left -= 1;
-            self.put(bytes[left]);
-        }
+        let end = self.start;
+        self.start -= bytes.len();
+        self.bytes[self.start..end].copy_from_slice(bytes);
     }
 
     // Puts the decimal digits of n before the text.
@@ -57,12 +57,7 @@ impl Front {
         ensures text { text_of self.new ≡ decimal n ++ text_of self.old }
         ensures room { self.old.start ≤ self.new.start + 20 }
     {
-        let mut left = n;
-        while left >= 10 {
-            self.put(b'0' + (left % 10) as u8);
-            left /= 10;
-        }
-        self.put(b'0' + left as u8);
+        self.start = write_digits(n, &mut self.bytes, self.start);
     }
 
     // Puts the last `count` hexadecimal digits of v before the text.
@@ -73,9 +68,7 @@ impl Front {
     {
         let mut left = v;
         let mut at = self.start;
-        let mut places = count;
-        while places > 0 {
-            places -= 1;
+        for _place in 0..count {
             at -= 1;
             self.bytes[at] = hex_digit((left % 16) as u8);
             left /= 16;

@@ -1,4 +1,5 @@
-use Rattle.std.proofs.Common.{◌+◌, ◌*◌, ◌^◌, ◌<◌, length, Some, sym, ap, ◌∙◌, arith, true-eqb, false-eqb}
+use Rattle.std.proofs.Common.{◌≡◌, ◌+◌, ◌*◌, ◌^◌, ◌<◌, length, get_or, Some, sym, ap, ◌∙◌, subst, arith, true-eqb, false-eqb}
+use Rattle.std.specs.Char.{digit_value}
 use Rattle.std.specs.Str.Parse.{digits_value}
 use Rattle.std.proofs.lemmas.Int.Digits.{digits_value_more}
 use Rattle.std.proofs.lemmas.List.{take_all}
@@ -14,13 +15,18 @@ returns-then-is_empty c =
       | then-is_empty-via-else-is_empty+then-field-most w ↦ number_long _ _ _ w.if-field-most.true
     ]
 
-pub returns-then-digit-radix : goal.returns-then-digit-radix
-returns-then-digit-radix c = number_not _ _ _ c.loop-b.b-index c.loop-b-test.true (omega (arith, c.digit_value-digit.ensures))
+pub returns-in_err-digit : goal.returns-in_err-digit
+returns-in_err-digit c =
+    let none : digit_value (get_or c.args.field.now c.loop-b.b-index 0) < c.args.radix → ⊥ = subst (λ k. digit_value k < c.args.radix → ⊥) c.from.ensures c.in_err-digit.ensures.value in
+    c.from_residual.ensures ∙ number_not _ _ _ c.loop-b.b-index c.loop-b-test.true (omega (arith, none))
 
-fits : (c : goal.Else-digit-radix) → c.loop-b.value * c.args.radix + c.digit_value-digit.result < 2 ^ 64
+digit : (c : goal.In_ok-digit) → (digit_value (get_or c.args.field.now c.loop-b.b-index 0) < c.args.radix) × (c.in_ok-digit.digit ≡ digit_value (get_or c.args.field.now c.loop-b.b-index 0))
+digit c = subst (λ k. (digit_value k < c.args.radix) × (c.in_ok-digit.digit ≡ digit_value k)) c.from.ensures c.in_ok-digit.ensures.value
+
+fits : (c : goal.In_ok-digit) → c.loop-b.value * c.args.radix + c.in_ok-digit.digit < 2 ^ 64
 fits c =
-    let h = room c.args.radix c.args.most c.loop-b.b-index c.args.field.now c.requires.radix.0 c.requires.room (omega arith) c.loop-b-test.true c.loop-b.invariant.0 (omega (arith, c.digit_value-digit.ensures)) in
-    omega (arith, h, c.digit_value-digit.ensures, ap (λ v. v * c.args.radix) c.loop-b.invariant.1)
+    let h = room c.args.radix c.args.most c.loop-b.b-index c.args.field.now c.requires.radix.0 c.requires.room (omega arith) c.loop-b-test.true c.loop-b.invariant.0 (digit c).0 in
+    omega (arith, h, (digit c).1, ap (λ v. v * c.args.radix) c.loop-b.invariant.1)
 
 pub overflow_mul-value : goal.overflow_mul-value
 overflow_mul-value c = omega (arith, fits c)
@@ -31,8 +37,8 @@ overflow_add-value c = omega (arith, fits c)
 pub loop-b-preserved : goal.loop-b-preserved
 loop-b-preserved c =
     let e = digits_value_more c.args.radix c.args.field.now c.loop-b.b-index c.loop-b-test.true in (
-      digits_more _ _ _ c.loop-b-test.true c.loop-b.invariant.0 (omega (arith, c.digit_value-digit.ensures)),
-      omega (arith, e, c.digit_value-digit.ensures, ap (λ v. v * c.args.radix) c.loop-b.invariant.1),
+      digits_more _ _ _ c.loop-b-test.true c.loop-b.invariant.0 (digit c).0,
+      omega (arith, e, (digit c).1, ap (λ v. v * c.args.radix) c.loop-b.invariant.1),
     )
 
 pub returns : goal.returns
