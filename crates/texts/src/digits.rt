@@ -11,7 +11,7 @@ fn read_digits(field: &[u8], radix: u32, most: usize) -> Option<u64>
     if field.is_empty() || field.len() > most {
         return None;
     }
-    // A loop, since the closure of a fold could not say that its product fits.
+    // A loop: a fold, whose closure would owe that each product fits, reads no plainer.
     let mut value = 0;
     for b in field {
         let digit = char::from(*b).to_digit(radix)?;
