@@ -160,7 +160,7 @@ impl Core {
         let level = self.ceiling(r).max(self.system_ceiling());
         // Read for the proof alone: a chain falls, so that no holder is above the task that runs.
         let chain = &self.chain;
-        let _ = &chain.started;
+        let _ = &chain.tasks;
         self.held.push(HeldLock {
             resource: r as u8,
             holder: t,

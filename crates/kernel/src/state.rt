@@ -5,12 +5,11 @@ use arrayvec::ArrayVec;
 use plan::record::Plan;
 use std::marker::Model;
 
-// The preemption chain: the tasks started and not ended, in starting order, and the same tasks as a vector. Each
-// task is above the one below it, so that no more than 64 find a place. Contracts see the list, the newest first.
+// The preemption chain: the tasks started and not ended, in starting order. Each task is above the one below it, so
+// that no more than 64 find a place. Contracts see the list, the newest first.
 #[derive(Drop)]
 pub struct Chain {
     pub(crate) tasks: ArrayVec<u8, 64>,
-    pub(crate) started: u64,
 }
 
 impl Model for Chain {
@@ -22,7 +21,7 @@ impl Model for Chain {
 
     ghost view = { λ c. reverse c.tasks.items };
 
-    ghost invariant = { λ c. IsChain (reverse c.tasks.items) c.started };
+    ghost invariant = { λ c. IsChain (reverse c.tasks.items) };
 }
 
 // The held list: the locks not undone, in locking order. No resource is held twice, so that no more than 32 find

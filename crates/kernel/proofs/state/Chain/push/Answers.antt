@@ -1,6 +1,4 @@
 use Rattle.std.proofs.Common.{◌≡◌, ℕ, ◌≤◌, false, List, [], ◌∷◌, length, reverse, sym, ap, ◌∙◌, subst, arith}
-use lib.Bits.{bit_or}
-use Rattle.vectors.proofs.Bits.{shifted}
 use Rattle.std.proofs.lemmas.List.{reverse-append, length-reverse}
 use Rattle.plan.specs.Plans.{reaches}
 use Rattle.machine.specs.Schedules.{head}
@@ -20,4 +18,4 @@ pub invariant_of-self : goal.invariant_of-self
 invariant_of-self c =
     let xs : List ℕ = reverse c.self.inside.tasks.items in
     let above : reaches (head xs) c.args.w ≡ false = subst (λ ys. reaches (head ys) c.args.w ≡ false) (sym c.self.view_is) c.requires.above in
-    subst (λ (ys : List ℕ). IsChain ys (bit_or c.self.inside.started (shifted 64 c.args.w))) (sym (ap reverse c.push.ensures.items ∙ reverse-append c.self.inside.tasks.items (c.args.w ∷ []))) (chain_push xs c.self.inside.started c.args.w c.self.invariant c.requires.small above)
+    subst (λ (ys : List ℕ). IsChain ys) (sym (ap reverse c.push.ensures.items ∙ reverse-append c.self.inside.tasks.items (c.args.w ∷ []))) (chain_push xs c.args.w c.self.invariant c.requires.small above)
