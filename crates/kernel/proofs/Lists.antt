@@ -1,9 +1,10 @@
 -- One entry more and one less in the chain and in the held list.
+use Rattle.std.proofs.lemmas.List.{reverse-append, length-map}
 use Rattle.std.proofs.lemmas.List.Sorted.{IsPermutation-reverse, list_any-IsPermutation}
 use Rattle.std.proofs.lemmas.Map.Keys.{IsDistinct-cons}
 use Rattle.std.proofs.lemmas.Map.Steps.{length-le_from_distinct_below}
 use Rattle.std.specs.List.{AllByRecursion, IsDistinct, list_any}
-use Rattle.std.proofs.Common.{◌≡◌, ℕ, suc, ◌-◌, ◌<◌, ◌≤◌, Bool, true, false, cond, not, ◌&&◌, ◌||◌, eqb, List, [], ◌∷◌, length, reverse, Some, None, Option, sym, refl, ap, ◌∙◌, subst, ⊎_elim, arith}
+use Rattle.std.proofs.Common.{◌≡◌, ℕ, suc, ◌-◌, ◌<◌, ◌≤◌, Bool, true, false, cond, not, ◌&&◌, ◌||◌, eqb, List, [], ◌∷◌, ◌++◌, length, map, reverse, Some, None, Option, sym, refl, ap, ◌∙◌, subst, ⊎_elim, arith}
 use lib.Bits.{bit_and, bit_or}
 use Rattle.std.proofs.lemmas.Bool.{both_ways, cases_eq, eq-eqb, ne_eqb, cases_Bool, or_left, or_from, or_cases, and_parts, eqb-true}
 use Rattle.vectors.proofs.Bits.{shifted}
@@ -17,6 +18,10 @@ use Rattle.laws.proofs.Sets.{some_none}
 use Rattle.laws.proofs.Lists.{over_chain, among_cases, among_here, among_there, holder_here, holder_cases, holder_older, holds_none}
 use Rattle.kernel.specs.declared.held_lock.HeldLock.{HeldLock}
 use Rattle.kernel.specs.Lists.{IsChain, entries, IsHeldList, Placed, keeps_levels}
+
+-- the last of a vector is the newest of the list that contracts see
+pub newest_of : {A : Type 0} (xs ys : List A) (x : A) → xs ≡ ys ++ x ∷ [] → reverse xs ≡ x ∷ reverse ys
+newest_of xs ys x e = ap reverse e ∙ reverse-append ys (x ∷ [])
 
 -- chains
 
@@ -71,12 +76,7 @@ locked_less l ls h = record {
 
 -- the locks are as many as their resources, which are apart and below 32
 abbrev locked : List HeldLock → List ℕ
-locked [] = []
-locked (l ∷ ls) = l.resource ∷ locked ls
-
-length_locked : (ls : List HeldLock) → length (locked ls) ≡ length ls
-length_locked [] = refl
-length_locked (l ∷ ls) = ap (λ n. suc n) (length_locked ls)
+locked ls = map (λ l. l.resource) ls
 
 locked_any : (ls : List HeldLock) (q : ℕ) → list_any (eqb q) (locked ls) ≡ present (holder (entries ls) q)
 locked_any [] q = refl
@@ -102,7 +102,7 @@ pub held_room : (ls : List HeldLock) (r : ℕ) → IsHeldList ls → r < 32 → 
 held_room ls r h small free =
     let n = length-le_from_distinct_below (r ∷ locked ls) 32 (IsDistinct-cons eqb r (locked ls) (lacks ls r free) (distinct ls h.single)) (λ q e. ⊎_elim (λ (z : q ≡ r). omega arith)
     (λ (z : q ≡ r → ⊥). below q (sym (locked_any ls q) ∙ ap (λ b. b || list_any (eqb q) (locked ls)) (sym (ne_eqb q r z)) ∙ e)) (cases_eq q r)) in
-    omega (arith, n, length_locked ls)
+    omega (arith, n, length-map ls (λ l. l.resource))
   where
     here : (q : ℕ) (o : Option ℕ) → holder (entries ls) q ≡ o → present o ≡ true → q < 32
     here q None a b = absurd (both_ways false refl b)

@@ -1,5 +1,9 @@
-// What a kernel holds beside its waiting set, in vectors of a fixed capacity, which never allocate. The structs stand
-// alone in this file: the words of specs/ that speak of them import it.
+// What a kernel holds beside its waiting set: the two lists in vectors of a fixed capacity, which never allocate. The
+// structs stand alone in this file: the words of specs/ that speak of them import it.
+ghost use Rattle.std.specs.Prelude.{◌≡◌, Bool, true, false, [], None};
+ghost use Rattle.machine.specs.Refusals.{present};
+ghost use Rattle.kernel.specs.Lists.{keeps_levels, Placed};
+
 use crate::held_lock::HeldLock;
 use arrayvec::ArrayVec;
 use plan::record::Plan;
@@ -14,10 +18,9 @@ pub struct Chain {
 
 impl Model for Chain {
     ghost use Rattle.std.specs.Prelude.{ℕ, List, reverse};
+    ghost use Rattle.kernel.specs.Lists.{IsChain};
 
     ghost Value = { List ℕ };
-
-    ghost use Rattle.kernel.specs.Lists.{IsChain};
 
     ghost view = { λ c. reverse c.tasks.items };
 
@@ -34,19 +37,14 @@ pub struct HeldList {
 impl Model for HeldList {
     ghost use Rattle.std.specs.Prelude.{ℕ, List, reverse};
     ghost use Rattle.kernel.specs.declared.held_lock.HeldLock.{HeldLock};
+    ghost use Rattle.kernel.specs.Lists.{IsHeldList};
 
     ghost Value = { List HeldLock };
-
-    ghost use Rattle.kernel.specs.Lists.{IsHeldList};
 
     ghost view = { λ h. reverse h.locks.items };
 
     ghost invariant = { λ h. IsHeldList (reverse h.locks.items) };
 }
-
-ghost use Rattle.std.specs.Prelude.{◌≡◌, Bool, true, false, [], None};
-ghost use Rattle.machine.specs.Refusals.{present};
-ghost use Rattle.kernel.specs.Lists.{keeps_levels, Placed};
 
 // The installed plan, the chain, the held list, and a vector of marks for each event. Without a plan nothing is
 // held; holders have started; and each lock keeps the system ceiling that it led to.
