@@ -1,8 +1,10 @@
 -- One entry more and one less in the chain and in the held list.
+use Rattle.std.proofs.lemmas.List.{reverse-append, length-map}
+use Rattle.std.proofs.lemmas.List.Sorted.{IsPermutation-reverse, list_any-IsPermutation}
 use Rattle.std.proofs.lemmas.Map.Keys.{IsDistinct-cons}
 use Rattle.std.proofs.lemmas.Map.Steps.{length-le_from_distinct_below}
 use Rattle.std.specs.List.{AllByRecursion, IsDistinct, list_any}
-use Rattle.std.proofs.Common.{◌≡◌, ℕ, suc, ◌-◌, ◌<◌, ◌≤◌, Bool, true, false, cond, not, ◌&&◌, ◌||◌, eqb, List, [], ◌∷◌, length, Some, None, Option, sym, refl, ap, ◌∙◌, subst, ⊎_elim, arith}
+use Rattle.std.proofs.Common.{◌≡◌, ℕ, suc, ◌-◌, ◌<◌, ◌≤◌, Bool, true, false, cond, not, ◌&&◌, ◌||◌, eqb, List, [], ◌∷◌, ◌++◌, length, map, reverse, Some, None, Option, sym, refl, ap, ◌∙◌, subst, ⊎_elim, arith}
 use lib.Bits.{bit_and, bit_or}
 use Rattle.std.proofs.lemmas.Bool.{both_ways, cases_eq, eq-eqb, ne_eqb, cases_Bool, or_left, or_from, or_cases, and_parts, eqb-true}
 use Rattle.vectors.proofs.Bits.{shifted}
@@ -17,10 +19,22 @@ use Rattle.laws.proofs.Lists.{over_chain, among_cases, among_here, among_there, 
 use Rattle.kernel.specs.declared.held_lock.HeldLock.{HeldLock}
 use Rattle.kernel.specs.Lists.{IsChain, entries, IsHeldList, Placed, keeps_levels}
 
+-- the last of a vector is the newest of the list that contracts see
+pub newest_of : {A : Type 0} (xs ys : List A) (x : A) → xs ≡ ys ++ x ∷ [] → reverse xs ≡ x ∷ reverse ys
+newest_of xs ys x e = ap reverse e ∙ reverse-append ys (x ∷ [])
+
 -- chains
 
-pub no_chain : IsChain [] 0
-no_chain = record { falling = tt; small = λ t e. absurd (both_ways false refl e); noted = in_none }
+pub no_chain : IsChain []
+no_chain = record { falling = tt; small = λ t e. absurd (both_ways false refl e) }
+
+-- a task is in the chain where the search over its vector finds it
+found_any : (xs : List ℕ) (t : ℕ) → list_any (λ y. eqb y t) xs ≡ among xs t
+found_any [] t = refl
+found_any (x ∷ xs) t = ap (λ b. b || list_any (λ y. eqb y t) xs) (⊎_elim (λ (q : x ≡ t). eq-eqb x t q ∙ sym (eq-eqb t x (sym q))) (λ (ne : x ≡ t → ⊥). ne_eqb x t ne ∙ sym (ne_eqb t x (λ q. ne (sym q)))) (cases_eq x t)) ∙ ap (λ b. eqb t x || b) (found_any xs t)
+
+pub found_in : (xs : List ℕ) (t : ℕ) → list_any (λ y. eqb y t) xs ≡ among (reverse xs) t
+found_in xs t = list_any-IsPermutation (λ y. eqb y t) xs (reverse xs) (IsPermutation-reverse xs) ∙ found_any (reverse xs) t
 
 -- a falling list is no longer than what is above its newest
 pub chain_room : (xs : List ℕ) (w : ℕ) → Falling xs → ((t : ℕ) → among xs t ≡ true → t < w) → length xs ≤ w
@@ -30,23 +44,14 @@ chain_room (x ∷ xs) w f h =
     let b : length xs ≤ x = chain_room xs x f.1 f.0 in
     omega arith
 
-pub chain_push : (xs : List ℕ) (v w : ℕ) → IsChain xs v → w < 64 → reaches (head xs) w ≡ false → IsChain (w ∷ xs) (bit_or v (shifted 64 w))
-chain_push xs v w c small e = record {
+pub chain_push : (xs : List ℕ) (w : ℕ) → IsChain xs → w < 64 → reaches (head xs) w ≡ false → IsChain (w ∷ xs)
+chain_push xs w c small e = record {
   falling = (over_chain xs c.falling w e, c.falling);
   small = λ t a. ⊎_elim (λ (q : t ≡ w). omega arith) (λ (q : among xs t ≡ true). c.small t q) (among_cases w xs t a);
-  noted = λ t. ap (λ f. f t) (code_with v w small) ∙ ap (λ b. eqb t w || b) (c.noted t);
 }
 
-pub chain_pop : (x v : ℕ) (xs : List ℕ) → IsChain (x ∷ xs) v → IsChain xs (bit_and v (18446744073709551615 - shifted 64 x))
-chain_pop x v xs c =
-    let free : among xs x ≡ false = ⊎_elim (λ a. let z : x < x = c.falling.0 x a in absurd (omega arith)) (λ a. a) (cases_Bool (among xs x)) in
-    record {
-      falling = c.falling.1;
-      small = λ t a. c.small t (among_there x xs t a);
-      noted = λ t. ap (λ f. f t) (code_without v x (c.small x (among_here x xs))) ∙ ap (λ b. not (eqb t x) && b) (c.noted t)
-          ∙ ⊎_elim (λ (q : t ≡ x). ap (λ b. not b && (b || among xs t)) (eq-eqb t x q) ∙ sym (ap (among xs) q ∙ free))
-          (λ (ne : t ≡ x → ⊥). ap (λ b. not b && (b || among xs t)) (ne_eqb t x ne)) (cases_eq t x);
-    }
+pub chain_pop : (x : ℕ) (xs : List ℕ) → IsChain (x ∷ xs) → IsChain xs
+chain_pop x xs c = record { falling = c.falling.1; small = λ t a. c.small t (among_there x xs t a) }
 
 -- held lists
 
@@ -71,12 +76,7 @@ locked_less l ls h = record {
 
 -- the locks are as many as their resources, which are apart and below 32
 abbrev locked : List HeldLock → List ℕ
-locked [] = []
-locked (l ∷ ls) = l.resource ∷ locked ls
-
-length_locked : (ls : List HeldLock) → length (locked ls) ≡ length ls
-length_locked [] = refl
-length_locked (l ∷ ls) = ap (λ n. suc n) (length_locked ls)
+locked ls = map (λ l. l.resource) ls
 
 locked_any : (ls : List HeldLock) (q : ℕ) → list_any (eqb q) (locked ls) ≡ present (holder (entries ls) q)
 locked_any [] q = refl
@@ -102,7 +102,7 @@ pub held_room : (ls : List HeldLock) (r : ℕ) → IsHeldList ls → r < 32 → 
 held_room ls r h small free =
     let n = length-le_from_distinct_below (r ∷ locked ls) 32 (IsDistinct-cons eqb r (locked ls) (lacks ls r free) (distinct ls h.single)) (λ q e. ⊎_elim (λ (z : q ≡ r). omega arith)
     (λ (z : q ≡ r → ⊥). below q (sym (locked_any ls q) ∙ ap (λ b. b || list_any (eqb q) (locked ls)) (sym (ne_eqb q r z)) ∙ e)) (cases_eq q r)) in
-    omega (arith, n, length_locked ls)
+    omega (arith, n, length-map ls (λ l. l.resource))
   where
     here : (q : ℕ) (o : Option ℕ) → holder (entries ls) q ≡ o → present o ≡ true → q < 32
     here q None a b = absurd (both_ways false refl b)

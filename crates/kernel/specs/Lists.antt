@@ -7,11 +7,10 @@ use Rattle.machine.specs.Refusals.{same}
 use Rattle.machine.specs.Shapes.{Falling, Single, Nested}
 use Rattle.kernel.specs.declared.held_lock.HeldLock.{HeldLock}
 
--- The chain falls, its tasks are below 64, and the vector holds the same tasks.
-pub record IsChain (xs : List ℕ) (started : ℕ) : Type 0 where
+-- The chain falls, and its tasks are below 64.
+pub record IsChain (xs : List ℕ) : Type 0 where
   pub falling : Falling xs
   pub small : (t : ℕ) → among xs t ≡ true → t < 64
-  pub noted : (t : ℕ) → in_vector started t ≡ among xs t
 
 -- The resources and holders of the locks.
 abbrev pub entries : List HeldLock → List (ℕ × ℕ)

@@ -6,7 +6,6 @@ ghost use Rattle.machine.specs.Shapes.{Falling};
 
 use crate::state::Chain;
 use arrayvec::ArrayVec;
-use vectors::contains;
 
 impl Chain {
     // The chain of nobody.
@@ -15,7 +14,6 @@ impl Chain {
     {
         Chain {
             tasks: ArrayVec::new(),
-            started: 0,
         }
     }
 
@@ -31,7 +29,7 @@ impl Chain {
     pub(crate) fn has(&self, t: u8) -> bool
         ensures { result ≡ among self.now t }
     {
-        contains(self.started, t)
+        self.tasks.as_slice().contains(&t)
     }
 
     // Starts task w above the running task.
@@ -41,15 +39,12 @@ impl Chain {
         ensures { self.new ≡ w ∷ self.old }
     {
         self.tasks.push(w);
-        self.started |= 1 << w;
     }
 
     // Ends the running task, if there is one.
     pub(crate) fn pop(&mut self)
         ensures { self.new ≡ tail self.old }
     {
-        if let Some(t) = self.tasks.pop() {
-            self.started &= !(1 << t);
-        }
+        self.tasks.pop();
     }
 }

@@ -2,12 +2,11 @@
 ghost use Rattle.std.specs.Prelude.{◌≡◌, ℕ, ◌<◌, ◌≤◌, Bool, true, false, not, ◌||◌, ◌∷◌, Some, None};
 ghost use Rattle.vectors.specs.Vectors.{in_vector, strays as strays_from};
 ghost use Rattle.plan.specs.Plans.{reaches};
-ghost use Rattle.machine.specs.Schedules.{head, tail, newest, holder as holder_in, system_ceiling_under};
+ghost use Rattle.machine.specs.Schedules.{head, tail, newest, add_lock, holder as holder_in, system_ceiling_under};
 ghost use Rattle.machine.specs.Refusals.{present, absent, same, tasks_of, resources_of, may_lock as may_lock_in, holds_some};
 ghost use Rattle.std.specs.Option.{ok_or};
 ghost use Rattle.machine.specs.declared.Refusal.TheVariants.{NoTaskRuns};
 ghost use Rattle.machine.specs.History.{ceiling_under};
-ghost use Rattle.machine.specs.Shapes.{Falling};
 ghost use Rattle.kernel.specs.Lists.{entries};
 ghost use Rattle.kernel.specs.Changes.{may_start as may_start_in, Blank, Fitted, Rechained, Reheld};
 
@@ -60,7 +59,7 @@ impl Core {
         strays(v, self.declared())
     }
 
-    // How many resources are declared.
+    // How many resources are declared. `events` is as short: one function for both counts would take a closure.
     pub(crate) fn resources(&self) -> u16
         ensures value { result ≡ resources_of self.now.plan }
         ensures bound { result ≤ 32 }
@@ -98,10 +97,9 @@ impl Core {
         self.has_plan() && self.chain.running() < Some(w) && self.system_ceiling() < Some(w)
     }
 
-    // The running task, without which most calls are turned down.
+    // The running task, which lock, unlock, exit and test need.
     pub(crate) fn running(&self) -> Result<u8, Refusal>
-        ensures value { result ≡ ok_or (head self.now.chain) NoTaskRuns }
-        ensures falling { Falling self.now.chain }
+        ensures { result ≡ ok_or (head self.now.chain) NoTaskRuns }
     {
         self.chain.running().ok_or(Refusal::NoTaskRuns)
     }
@@ -119,10 +117,10 @@ impl Core {
     pub(crate) fn running_holds(&self) -> bool
         ensures { result ≡ holds_some (entries self.now.held) (head self.now.chain) }
     {
-        match (self.chain.running(), self.held.newest()) {
-            (Some(t), Some(lock)) => lock.holder == t,
-            _ => false,
-        }
+        let running = self.chain.running();
+        self.held
+            .newest()
+            .is_some_and(|lock| Some(lock.holder) == running)
     }
 
     // Ends the running task, which holds nothing.
@@ -144,28 +142,24 @@ impl Core {
     pub(crate) fn locked_last(&self, r: u16) -> bool
         ensures { result ≡ same (newest (entries self.now.held)) (Some r) }
     {
-        self.held
-            .newest()
-            .is_some_and(|lock| u16::from(lock.resource) == r)
+        self.held.newest().is_some_and(|lock| lock.resource == r)
     }
 
-    // Notes that the running task t has locked resource r.
-    pub(crate) fn lock(&mut self, r: u16, t: u8)
+    // Notes that the running task has locked resource r.
+    pub(crate) fn lock(&mut self, r: u16)
         requires small { r < 32 }
-        requires runs { head self.old.chain ≡ Some t }
         requires free { holder_in (entries self.old.held) r ≡ None }
         requires planned { present self.old.plan ≡ true }
-        ensures { Reheld self.old self.new ((r, t) ∷ entries self.old.held) }
+        ensures { Reheld self.old self.new (add_lock r (head self.old.chain) (entries self.old.held)) }
     {
         let level = self.ceiling(r).max(self.system_ceiling());
-        // Read for the proof alone: a chain falls, so that no holder is above the task that runs.
-        let chain = &self.chain;
-        let _ = &chain.started;
-        self.held.push(HeldLock {
-            resource: r as u8,
-            holder: t,
-            level,
-        });
+        if let Some(holder) = self.chain.running() {
+            self.held.push(HeldLock {
+                resource: r,
+                holder,
+                level,
+            });
+        }
     }
 
     // Undoes the newest lock.

@@ -30,12 +30,12 @@ impl HeldList {
     pub(crate) fn holder(&self, r: u16) -> Option<u8>
         ensures { result ≡ holder_in (entries self.now) r }
     {
-        let locks = self.locks.as_slice();
-        let found = locks
+        self.locks
+            .as_slice()
             .iter()
             .rev()
-            .find(|lock| u16::from(lock.resource) == r);
-        found.map(|lock| lock.holder)
+            .find(|lock| lock.resource == r)
+            .map(|lock| lock.holder)
     }
 
     // The newest lock, whose holder is below no other.

@@ -10,7 +10,7 @@ ghost use Rattle.kernel.specs.Meaning.{meaning, told, steady as steady_reply};
 use crate::state::Core;
 use machine::{Reply, Word};
 use sets::waiting::WaitingSet;
-use vectors::highest;
+use vectors::{highest, without};
 
 // A waiting set, which holds the waiting tasks and nothing else does, and the core beside it.
 #[derive(Drop)]
@@ -80,7 +80,7 @@ impl<R: WaitingSet> Kernel<R> {
     {
         let mut rest = v;
         while let Some(t) = highest(rest) {
-            rest &= !(1 << t);
+            rest = without(rest, t);
             if !self.core.chain.has(t) {
                 self.set.put(t);
             }

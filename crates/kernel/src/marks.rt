@@ -7,7 +7,7 @@ ghost use Rattle.kernel.specs.Parts.{marks_in};
 ghost use Rattle.kernel.specs.Changes.{marked_too, unmarked, Remarked};
 
 use crate::state::Core;
-use vectors::{contains, strays};
+use vectors::{contains, strays, without};
 
 impl Core {
     // How many events are declared.
@@ -29,9 +29,7 @@ impl Core {
     pub(crate) fn may_test(&self, e: u16, t: u8) -> bool
         ensures { result ≡ may_test_in self.now.plan e (Some t) }
     {
-        self.plan
-            .as_ref()
-            .is_some_and(|p| contains(p.registered_for(e), t))
+        contains(self.registered(e), t)
     }
 
     // Whether a vector is given that holds a task not registered for event e.
@@ -71,10 +69,10 @@ impl Core {
 
     // Clears the mark of task t for event e.
     pub(crate) fn clear_mark(&mut self, e: u16, t: u8)
-        requires event { e < 32 }
-        requires task { t < 64 }
+        requires { e < 32 }
         ensures { Remarked self.old self.new (unmarked e t (marks_in self.old)) }
     {
-        self.marks[usize::from(e)] &= !(1 << t);
+        let marks = &mut self.marks[usize::from(e)];
+        *marks = without(*marks, t);
     }
 }

@@ -8,6 +8,7 @@ ghost use Rattle.kernel.specs.Parts.{below};
 
 use crate::kernel::Kernel;
 use sets::waiting::WaitingSet;
+use vectors::with;
 
 impl<R: WaitingSet> Kernel<R> {
     // The running task.
@@ -26,14 +27,14 @@ impl<R: WaitingSet> Kernel<R> {
         let mut members = v;
         for t in first..first + 8 {
             if self.set.has(t) {
-                members |= 1 << t;
+                members = with(members, t);
             }
         }
         members
     }
 
     // The waiting tasks as a vector, read from the set. Row by row, since the compiler then joins the questions to
-    // a set that is a vector itself: one loop over all 64 took half as many instructions a record again.
+    // a set that is a vector itself: one loop over all 64 took more than half as many instructions more.
     pub fn waiting(&self) -> u64
         ensures { result ≡ vector_of 64 (meaning R.room R.holds self.now).schedule.waiting }
     {

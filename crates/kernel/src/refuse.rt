@@ -1,4 +1,4 @@
-// The tests of a call, one line for each row of the refusal table.
+// How a test of the refusal table turns a call down.
 ghost use Rattle.std.specs.Prelude.{◌≡◌, Bool, Ok, Err, if◌then◌else◌};
 
 use machine::Refusal;

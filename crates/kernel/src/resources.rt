@@ -1,4 +1,4 @@
-// Lock and unlock.
+// Lock and unlock. Each spells its own rows of the refusal table, the first two as well, so that it reads as they do.
 ghost use Rattle.machine.specs.declared.Call.TheVariants.{Lock, Unlock};
 ghost use Rattle.kernel.specs.Meaning.{Follows};
 
@@ -16,7 +16,7 @@ impl<R: WaitingSet> Kernel<R> {
         refuse_if(self.core.resources() <= r, Refusal::NotDeclared)?;
         refuse_if(!self.core.may_lock(r, t), Refusal::NotEntitled)?;
         refuse_if(self.core.held.has(r), Refusal::AlreadyHeld)?;
-        self.core.lock(r, t);
+        self.core.lock(r);
         Ok(self.steady(None))
     }
 

@@ -1,28 +1,30 @@
-// What a kernel holds beside its waiting set, in vectors of a fixed capacity, which never allocate. The structs stand
-// alone in this file: the words of specs/ that speak of them import it.
+// What a kernel holds beside its waiting set: the two lists in vectors of a fixed capacity, which never allocate. The
+// structs stand alone in this file: the words of specs/ that speak of them import it.
+ghost use Rattle.std.specs.Prelude.{◌≡◌, Bool, true, false, [], None};
+ghost use Rattle.machine.specs.Refusals.{present};
+ghost use Rattle.kernel.specs.Lists.{keeps_levels, Placed};
+
 use crate::held_lock::HeldLock;
 use arrayvec::ArrayVec;
 use plan::record::Plan;
 use std::marker::Model;
 
-// The preemption chain: the tasks started and not ended, in starting order, and the same tasks as a vector. Each
-// task is above the one below it, so that no more than 64 find a place. Contracts see the list, the newest first.
+// The preemption chain: the tasks started and not ended, in starting order. Each task is above the one below it, so
+// that no more than 64 find a place. Contracts see the list, the newest first.
 #[derive(Drop)]
 pub struct Chain {
     pub(crate) tasks: ArrayVec<u8, 64>,
-    pub(crate) started: u64,
 }
 
 impl Model for Chain {
     ghost use Rattle.std.specs.Prelude.{ℕ, List, reverse};
+    ghost use Rattle.kernel.specs.Lists.{IsChain};
 
     ghost Value = { List ℕ };
 
-    ghost use Rattle.kernel.specs.Lists.{IsChain};
-
     ghost view = { λ c. reverse c.tasks.items };
 
-    ghost invariant = { λ c. IsChain (reverse c.tasks.items) c.started };
+    ghost invariant = { λ c. IsChain (reverse c.tasks.items) };
 }
 
 // The held list: the locks not undone, in locking order. No resource is held twice, so that no more than 32 find
@@ -35,19 +37,14 @@ pub struct HeldList {
 impl Model for HeldList {
     ghost use Rattle.std.specs.Prelude.{ℕ, List, reverse};
     ghost use Rattle.kernel.specs.declared.held_lock.HeldLock.{HeldLock};
+    ghost use Rattle.kernel.specs.Lists.{IsHeldList};
 
     ghost Value = { List HeldLock };
-
-    ghost use Rattle.kernel.specs.Lists.{IsHeldList};
 
     ghost view = { λ h. reverse h.locks.items };
 
     ghost invariant = { λ h. IsHeldList (reverse h.locks.items) };
 }
-
-ghost use Rattle.std.specs.Prelude.{◌≡◌, Bool, true, false, [], None};
-ghost use Rattle.machine.specs.Refusals.{present};
-ghost use Rattle.kernel.specs.Lists.{keeps_levels, Placed};
 
 // The installed plan, the chain, the held list, and a vector of marks for each event. Without a plan nothing is
 // held; holders have started; and each lock keeps the system ceiling that it led to.

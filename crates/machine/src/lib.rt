@@ -9,7 +9,7 @@ ghost use Rattle.machine.specs.Numbers.{refusal_number};
 use plan::record::Plan;
 
 // A call to the kernel. Vectors are those of tasks; numbers of resources and events count from 0.
-#[derive(Clone, Copy)]
+#[derive(Clone, Copy, PartialEq, Debug)]
 pub enum Call {
     Install(Plan),
     Release(u64),

@@ -1,6 +1,6 @@
 // What the blocking table is asked for.
 
-// Task `low` holds up task `high` over resource `resource`.
+// Task `low` may hold up task `high` over resource `resource`.
 #[derive(Clone, Copy, PartialEq, Debug)]
 pub struct Entry {
     pub low: u8,

@@ -5,7 +5,7 @@ ghost use Rattle.plan.specs.Rows.{Inside, EmptyFrom};
 // The vector of declared tasks, how many resources and events there are, the users of each resource, and the
 // tasks registered for each event. Users and registered tasks are declared; rows beyond the counts are empty.
 // Arrays with their counts beside them: a plan is copied into calls, and a vector of fixed capacity is not Copy.
-#[derive(Clone, Copy)]
+#[derive(Clone, Copy, PartialEq, Debug)]
 pub struct Plan {
     pub declared: u64,
     pub resources: u8,

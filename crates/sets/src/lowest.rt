@@ -2,8 +2,8 @@
 ghost use Rattle.std.specs.Prelude.{◌≡◌, ◌<◌};
 ghost use Rattle.sets.specs.Lowest.{lowest_place};
 
-// Entry 0 is 0, and entry n the place of the lowest 1 of n. A byte of a set that is looked up here is never 0, so that
-// an option would only be unwrapped.
+// Entry 0 is 0, and entry n the place of the lowest 1 of n. No option stands for entry 0: `lowest_one` is public, and its
+// clause and the worked case say 0 there.
 const LOWEST: [u8; 256] = [
     0, 0, 1, 0, 2, 0, 1, 0, 3, 0, 1, 0, 2, 0, 1, 0, 4, 0, 1, 0, 2, 0, 1, 0, 3, 0, 1, 0, 2, 0, 1, 0,
     5, 0, 1, 0, 2, 0, 1, 0, 3, 0, 1, 0, 2, 0, 1, 0, 4, 0, 1, 0, 2, 0, 1, 0, 3, 0, 1, 0, 2, 0, 1, 0,

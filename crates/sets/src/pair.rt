@@ -51,6 +51,7 @@ impl<A: WaitingSet, B: WaitingSet> WaitingSet for Pair<A, B> {
             .map_or(self.first.size(), |a| a + self.second.size())
     }
 
+    // The match stands in each of the three: no closure could lend out both sets to one function for all.
     fn has(&self, t: u8) -> bool {
         match self.in_second(t) {
             Some(x) => self.second.has(x),
@@ -76,7 +77,8 @@ impl<A: WaitingSet, B: WaitingSet> WaitingSet for Pair<A, B> {
         let Some(a) = self.offset() else {
             return self.first.highest();
         };
-        // A match, and no `map` with `or_else`: it shows that the first set's answer is passed on as it is.
+        // A match, and no `and_then` with `map` and `or_else`: that the sum fits would have to be written as what two
+        // closures, one in the other, ask of their callers.
         match self.second.highest() {
             Some(x) => Some(a + x),
             None => self.first.highest(),

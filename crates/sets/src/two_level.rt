@@ -11,6 +11,7 @@ use crate::lowest::lowest_one;
 use crate::waiting::WaitingSet;
 use vectors::contains;
 
+// A row is indexed by `row as usize`: `usize::from` is a call, and the proofs would tell of its result in place of `row`.
 #[derive(Clone, Copy)]
 pub struct TwoLevelSet {
     group: u8,
@@ -71,8 +72,7 @@ impl WaitingSet for TwoLevelSet {
         };
         let left = switched_off(self.rows[row as usize], bit);
         self.rows[row as usize] = left;
-        let emptied = left == 0;
-        if emptied {
+        if left == 0 {
             self.group = switched_off(self.group, row);
         }
         true
@@ -80,11 +80,10 @@ impl WaitingSet for TwoLevelSet {
 
     fn highest(&self) -> Option<u8> {
         if self.group == 0 {
-            None
-        } else {
-            let row = lowest_one(self.group);
-            let bit = lowest_one(self.rows[row as usize]);
-            Some(63 - (row * 8 + bit))
+            return None;
         }
+        let row = lowest_one(self.group);
+        let bit = lowest_one(self.rows[row as usize]);
+        Some(63 - (row * 8 + bit))
     }
 }

@@ -4,7 +4,7 @@ ghost use Rattle.vectors.specs.Vectors.{in_vector};
 ghost use Rattle.vectors.proofs.Vectors.{in_below};
 
 use crate::waiting::WaitingSet;
-use vectors::{contains, highest};
+use vectors::{contains, highest, with, without};
 
 #[derive(Clone, Copy)]
 pub struct WordSet {
@@ -48,7 +48,7 @@ impl WaitingSet for WordSet {
         if t >= self.size {
             return false;
         }
-        self.word |= 1 << t;
+        self.word = with(self.word, t);
         true
     }
 
@@ -56,7 +56,7 @@ impl WaitingSet for WordSet {
         if t >= self.size {
             return false;
         }
-        self.word &= !(1 << t);
+        self.word = without(self.word, t);
         true
     }
 

@@ -6,6 +6,7 @@ use lib.Count.{leading_top}
 use lib.Pow.{pow-lt, split}
 use Rattle.std.proofs.lemmas.Bool.{cases_eq, cases_lt, lt-ltb, le-ltb, eq-eqb, ne_eqb, and_parts, ltb-true, eqb-true, eqb-false, cases_Bool, cases_order, both_ways, cond-true, cond-false, or_parts, or_from, not-false, not-true, or_cases, false≢true}
 use Rattle.std.proofs.lemmas.Bool.Decides.{nat_tests}
+use Rattle.std.proofs.lemmas.Option.{same_Some}
 use Rattle.vectors.specs.Vectors.{on, in_vector, vector_of, with, without, highest, some, strays}
 use Rattle.std.specs.Int.{w64}
 use Rattle.std.proofs.lemmas.Nat.Bits.{bit_at_and, bit_at_not, same_from_bits_below}
@@ -112,9 +113,6 @@ strays_is v w big wide = ⊎_elim
     (cases_Bool (strays v (in_vector w))))
     (cases_eq (bit_and v (18446744073709551615 - w)) 0)
 
-pub some_inj : (a b : ℕ) → Some a ≡ Some b → a ≡ b
-some_inj a b e = cc
-
 -- the greatest member below n
 pub record Greatest (n : ℕ) (m : ℕ → Bool) (w : ℕ) : Type 0 where
   pub member : m w ≡ true
@@ -128,7 +126,7 @@ highest_some (suc n) m w e = go (highest_some n m w) (m n) refl e
   where
     go : (highest n m ≡ Some w → Greatest n m w) → (b : Bool) → m n ≡ b → cond b (Some n) (highest n m) ≡ Some w → Greatest (suc n) m w
     go ih true q f =
-        let x : n ≡ w = some_inj n w f in
+        let x : n ≡ w = same_Some n w f in
         record { member = subst (λ (k : ℕ). m k ≡ true) x q; within = omega arith; top = λ k h _. omega arith }
     go ih false q f =
         let g = ih f in

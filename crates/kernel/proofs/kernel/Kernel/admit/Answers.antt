@@ -1,17 +1,14 @@
 use Rattle.std.proofs.Common.{ℕ, Bool, cond, ltb, sym, ap, ◌∙◌, ap₂}
 use Rattle.vectors.specs.Vectors.{in_vector, with}
 use Rattle.machine.specs.Schedules.{among}
-use Rattle.vectors.proofs.Vectors.{highest_tells, code_without, without_less, empty_vector}
+use Rattle.vectors.proofs.Vectors.{highest_tells, empty_vector}
 use Rattle.kernel.specs.Meaning.{schedule_of}
 use Rattle.kernel.specs.Parts.{marks_in}
 use Rattle.kernel.proofs.Joining.{joined, passed, put_in, all_there}
 use Rattle.kernel.proofs.kernel.Kernel.admit.Goals as goal
 
-pub overflow_shl-rest : goal.overflow_shl-rest
-overflow_shl-rest g c = (highest_tells 64 c.in-Some.t (in_vector c.loop-t.rest) (sym c.highest.ensures ∙ c.in-Some.is)).0
-
 pub loop-t-smaller-then-not-has : goal.loop-t-smaller-then-not-has
-loop-t-smaller-then-not-has g c = without_less c.loop-t.rest c.in-Some.t (highest_tells 64 c.in-Some.t (in_vector c.loop-t.rest) (sym c.highest.ensures ∙ c.in-Some.is)).1
+loop-t-smaller-then-not-has g c = c.without-rest.ensures.less (highest_tells 64 c.in-Some.t (in_vector c.loop-t.rest) (sym c.highest.ensures ∙ c.in-Some.is)).1
 
 pub loop-t-preserved-then-not-has : goal.loop-t-preserved-then-not-has
 loop-t-preserved-then-not-has g c =
@@ -26,13 +23,13 @@ loop-t-preserved-then-not-has g c =
     let top = highest_tells 64 t (in_vector rest) (sym c.highest.ensures ∙ c.in-Some.is) in (
       inv.0,
       c.put.ensures.kept ∙ inv.1,
-      ap₂ (λ (f h : ℕ → Bool). joined n f h chained) (code_without rest t top.0) (c.put.ensures.after ∙ ap (λ (j : ℕ). cond (ltb t j) (with t old) old) inv.1)
+      ap₂ (λ (f h : ℕ → Bool). joined n f h chained) c.without-rest.ensures.after (c.put.ensures.after ∙ ap (λ (j : ℕ). cond (ltb t j) (with t old) old) inv.1)
           ∙ put_in t n (in_vector rest) old chained top.1 (ap (λ k. among k.chain t) (sym inv.0) ∙ sym c.if-not-has.ensures)
           ∙ inv.2,
     )
 
 pub loop-t-smaller : goal.loop-t-smaller
-loop-t-smaller g c = without_less c.loop-t.rest c.in-Some.t (highest_tells 64 c.in-Some.t (in_vector c.loop-t.rest) (sym c.highest.ensures ∙ c.in-Some.is)).1
+loop-t-smaller g c = c.without-rest.ensures.less (highest_tells 64 c.in-Some.t (in_vector c.loop-t.rest) (sym c.highest.ensures ∙ c.in-Some.is)).1
 
 pub loop-t-preserved : goal.loop-t-preserved
 loop-t-preserved g c =
@@ -47,7 +44,7 @@ loop-t-preserved g c =
     let top = highest_tells 64 t (in_vector rest) (sym c.highest.ensures ∙ c.in-Some.is) in (
       inv.0,
       inv.1,
-      ap (λ (f : ℕ → Bool). joined n f old chained) (code_without rest t top.0)
+      ap (λ (f : ℕ → Bool). joined n f old chained) c.without-rest.ensures.after
           ∙ passed t n (in_vector rest) old chained (ap (λ k. among k.chain t) (sym inv.0) ∙ sym c.if-not-has.ensures)
           ∙ inv.2,
     )

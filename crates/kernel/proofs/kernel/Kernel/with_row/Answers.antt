@@ -1,6 +1,6 @@
 use Rattle.std.proofs.Common.{◌≡◌, ℕ, ◌+◌, ◌^◌, ◌<◌, sym, ap, ◌∙◌, subst, arith}
 use Rattle.vectors.specs.Vectors.{in_vector, with}
-use Rattle.vectors.proofs.Vectors.{code_with, with_below}
+use Rattle.std.proofs.lemmas.Bool.{lt-ltb, cond-true}
 use Rattle.kernel.specs.Parts.{below}
 use Rattle.kernel.proofs.Joining.{below_put, below_skip}
 use Rattle.kernel.proofs.kernel.Kernel.with_row.Goals as goal
@@ -9,13 +9,12 @@ use Rattle.kernel.proofs.kernel.Kernel.with_row.Goals.{then-has, else-has}
 pub loop-t-preserved : goal.loop-t-preserved
 loop-t-preserved g c =
     let m = g.R.WaitingSet.holds c.args.self.now.set in
-    let v = c.loop-t.members in
     let t = c.loop-t.t in
     let small : t < 64 = omega (arith, c.requires.row) in
     elim c.if-has.branch [
       | then-has w ↦ (
-        subst (λ (n : ℕ). n < 2 ^ 64) (sym w.members-is) (with_below v t 64 small (omega arith) c.loop-t.invariant.0),
-        ap in_vector w.members-is ∙ code_with v t small ∙ ap (with t) c.loop-t.invariant.1 ∙ below_put t m (sym c.has.ensures ∙ w.if-has.true),
+        subst (λ (n : ℕ). n < 2 ^ 64) (sym w.members-is) w.with-members.type_inv,
+        ap in_vector w.members-is ∙ w.with-members.ensures.after ∙ cond-true _ _ _ (lt-ltb t 64 small) ∙ ap (with t) c.loop-t.invariant.1 ∙ below_put t m (sym c.has.ensures ∙ w.if-has.true),
       )
       | else-has w ↦ (
         subst (λ (n : ℕ). n < 2 ^ 64) (sym w.members-is) c.loop-t.invariant.0,

@@ -11,5 +11,5 @@ returns c =
       plan = refl;
       chain = refl;
       held = refl;
-      marks = marks_clear s.marks c.from.result c.args.t (search rules) c.requires.task ∙ ap (λ e. unmarked e c.args.t (marks_in s)) c.from.ensures;
+      marks = marks_clear s.marks c.from.result c.args.t c.without.result (search rules) c.without.ensures.after ∙ ap (λ e. unmarked e c.args.t (marks_in s)) c.from.ensures;
     }

@@ -1,9 +1,6 @@
-use Rattle.std.proofs.Common.{ℕ, List, subst}
-use Rattle.machine.specs.Shapes.{Falling}
+use Rattle.std.proofs.Common.{sym, ◌∙◌}
 use Rattle.laws.proofs.Lists.{top}
 use Rattle.kernel.proofs.state.Core.lock.Goals as goal
 
 pub push-requires-clause-above : goal.push-requires-clause-above
-push-requires-clause-above c =
-    let falling : Falling c.args.self.now.chain = subst (λ (xs : List ℕ). Falling xs) c.chain.view_is c.chain.invariant.falling in
-    λ r k e. top c.args.self.now.chain falling c.args.t k c.requires.runs (c.args.self.now.placed r k e)
+push-requires-clause-above c = let s = c.args.self.now in λ r k e. top s.chain c.running.ensures.falling c.in-Some.holder k (sym c.running.ensures.value ∙ c.in-Some.is) (s.placed r k e)

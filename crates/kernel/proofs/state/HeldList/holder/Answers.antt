@@ -6,10 +6,11 @@ use Rattle.std.specs.Iterator.{Yields}
 use Rattle.std.specs.List.{FoldsTo}
 use Rattle.std.specs.Option.{MatchOption, IfSome, option_map}
 use Rattle.std.proofs.lemmas.Bool.{ne_eqb, eq-eqb}
-use Rattle.std.proofs.lemmas.List.{reverse-append, nil_from_length}
+use Rattle.std.proofs.lemmas.List.{nil_from_length}
 use Rattle.machine.specs.Schedules.{holder}
 use Rattle.kernel.specs.declared.held_lock.HeldLock.{HeldLock}
 use Rattle.kernel.specs.Lists.{entries}
+use Rattle.kernel.proofs.Lists.{newest_of}
 use Rattle.kernel.proofs.state.HeldList.holder.Goals as goal
 
 -- one call on the locks read from their end
@@ -17,7 +18,7 @@ abbrev backs : Rev (Iter HeldLock) → Option (Bor HeldLock) → Rev (Iter HeldL
 backs s o t = MatchOption o ((length s.iter.rest.now ≡ 0) × (t.iter ≡ s.iter)) (λ x. s.iter.rest.now ≡ t.iter.rest.now ++ x.now ∷ [])
 
 newest_first : (ls : List HeldLock) (l : HeldLock) (ks : List HeldLock) (r : ℕ) → ls ≡ ks ++ l ∷ [] → cond (eqb r l.resource) (Some l.holder) (holder (entries (reverse ks)) r) ≡ holder (entries (reverse ls)) r
-newest_first ls l ks r e = ap (λ xs. holder (entries xs) r) (sym (ap reverse e ∙ reverse-append ks (l ∷ [])))
+newest_first ls l ks r e = ap (λ xs. holder (entries xs) r) (sym (newest_of ls ks l e))
 
 -- what the search finds is the newest lock of the resource
 found : {F : Type 0} {g : Mut F (Bor (Bor HeldLock) × Unit {0}) Bool} (f : F) (r : ℕ)
@@ -40,7 +41,7 @@ mapped (Some x) m e = e
 
 pub returns : goal.returns
 returns c =
-    let z = c.find-found.ensures.ran in
-    mapped c.find-found.result c.map.result (search (rules, tests))
-    ∙ found _ c.args.r z.0 c.rev.result z.2.0 c.find-found.new.self _ z.1 c.find-found.result refl z.2.1 z.2.2 z.3 z.4 (λ x q k. search (rules, tests)) (λ x q k. search (rules, tests))
-    ∙ ap (λ xs. holder (entries xs) c.args.r) (ap (λ i. reverse i.rest.now) c.rev.ensures.source ∙ ap reverse (c.iter.ensures.rest ∙ c.as_slice-locks.ensures.value) ∙ c.self.view_is)
+    let z = c.find.ensures.ran in
+    mapped c.find.result c.map.result (search (rules, tests))
+    ∙ found _ c.args.r z.0 c.rev.result z.2.0 c.find.new.self _ z.1 c.find.result refl z.2.1 z.2.2 z.3 z.4 (λ x q k. search (rules, tests)) (λ x q k. search (rules, tests))
+    ∙ ap (λ xs. holder (entries xs) c.args.r) (ap (λ i. reverse i.rest.now) c.rev.ensures.source ∙ ap reverse (c.iter.ensures.rest ∙ c.as_slice.ensures.value) ∙ c.self.view_is)
