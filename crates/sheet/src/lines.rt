@@ -4,8 +4,7 @@ ghost use Rattle.plan.specs.Plans.{may_hold_up};
 ghost use Rattle.machine.specs.Machine.{step};
 ghost use Rattle.kernel.specs.Meaning.{meaning};
 ghost use Rattle.texts.specs.Sheets.{sheet_line};
-ghost use Rattle.sheet.specs.Lines.{told_of, entry_lines, sheet_lines};
-ghost use Rattle.sheet.specs.Tables.{ListsTable};
+ghost use Rattle.sheet.specs.Lines.{told_of, entry_lines, sheet_lines, AllInTable};
 
 use kernel::kernel::Kernel;
 use machine::Call;
@@ -15,6 +14,7 @@ use sets::waiting::WaitingSet;
 use sets::word::WordSet;
 use std::alloc::AllocError;
 use texts::sheets::{ShownCall, push_sheet_line};
+use transcripts::outputs::started;
 use transcripts::service::report_with;
 
 // Makes a call of the run that shows an entry, and adds its line.
@@ -38,8 +38,7 @@ fn push_entry(out: &mut Vec<u8>, plan: &Plan, e: Entry) -> Result<(), AllocError
     requires { may_hold_up plan.now e.low e.high e.resource ≡ true }
     ensures { OnOk result (out.new.items ≡ out.old.items ++ entry_lines plan.now e) }
 {
-    let mut kernel = Kernel::new(WordSet::new(64));
-    let _ = kernel.call(&Call::Install(*plan));
+    let mut kernel = started(WordSet::new(64), *plan);
     let low = Call::Release(1 << e.low);
     let lock = Call::Lock(e.resource);
     let high = Call::Release(1 << e.high);
@@ -54,7 +53,7 @@ pub(crate) fn push_entries(
     plan: &Plan,
     entries: &[Entry],
 ) -> Result<(), AllocError>
-    requires { ListsTable plan.now entries.now }
+    requires { AllInTable plan.now entries.now }
     ensures { OnOk result (out.new.items ≡ out.old.items ++ sheet_lines plan.now entries.now) }
 {
     for e in entries {
