@@ -3,7 +3,7 @@ ghost use Rattle.std.specs.Prelude.{◌≡◌, ℕ, Bool, true, ◌++◌, OnOk};
 ghost use Rattle.plan.specs.Plans.{may_hold_up};
 ghost use Rattle.machine.specs.Machine.{step};
 ghost use Rattle.kernel.specs.Meaning.{meaning};
-ghost use Rattle.texts.specs.Sheets.{sheet_line};
+ghost use Rattle.texts.specs.Sheets.{sheet_line, call_shown};
 ghost use Rattle.sheet.specs.Lines.{told_of, entry_lines, sheet_lines, AllInTable};
 
 use kernel::kernel::Kernel;
@@ -23,28 +23,25 @@ fn push_call<R: WaitingSet>(
     kernel: &mut Kernel<R>,
     e: Entry,
     shown: ShownCall,
-    call: &Call,
 ) -> Result<(), AllocError>
-    ensures after { meaning R.room R.holds kernel.new ≡ step call.now (meaning R.room R.holds kernel.old) }
-    ensures line { OnOk result (out.new.items ≡ out.old.items ++ sheet_line e.low e.high e.resource shown (told_of call.now (meaning R.room R.holds kernel.old))) }
+    ensures after { meaning R.room R.holds kernel.new ≡ step (call_shown shown) (meaning R.room R.holds kernel.old) }
+    ensures line { OnOk result (out.new.items ≡ out.old.items ++ sheet_line e.low e.high e.resource shown (told_of (call_shown shown) (meaning R.room R.holds kernel.old))) }
 {
-    let answer = kernel.call(call);
+    let answer = kernel.call(&Call::from(shown));
     let report = report_with(kernel, answer);
     push_sheet_line(out, e, shown, &report)
 }
 
-// Adds the three lines of an entry of the plan's table.
+// Adds the three lines of an entry of the plan's table. The calls are those of `runs::entries::show_entry`; here a line
+// is told between them, and the kernel is not handed on.
 fn push_entry(out: &mut Vec<u8>, plan: &Plan, e: Entry) -> Result<(), AllocError>
     requires { may_hold_up plan.now e.low e.high e.resource ≡ true }
     ensures { OnOk result (out.new.items ≡ out.old.items ++ entry_lines plan.now e) }
 {
     let mut kernel = started(WordSet::new(64), *plan);
-    let low = Call::Release(1 << e.low);
-    let lock = Call::Lock(e.resource);
-    let high = Call::Release(1 << e.high);
-    push_call(out, &mut kernel, e, ShownCall::Release(e.low), &low)?;
-    push_call(out, &mut kernel, e, ShownCall::Lock(e.resource), &lock)?;
-    push_call(out, &mut kernel, e, ShownCall::Release(e.high), &high)
+    push_call(out, &mut kernel, e, ShownCall::Release(e.low))?;
+    push_call(out, &mut kernel, e, ShownCall::Lock(e.resource))?;
+    push_call(out, &mut kernel, e, ShownCall::Release(e.high))
 }
 
 // Adds the lines of the entries of the plan's table.
