@@ -18,14 +18,11 @@ fn read_input(rt: &HostRuntime) -> io::Result<Input> {
         if input.is_enough() {
             break;
         }
-        let n = match stdin.read(&mut part) {
-            Err(e) if e.kind() == ErrorKind::Interrupted => continue,
-            read => read?,
-        };
-        if n == 0 {
-            break;
+        match stdin.read(&mut part) {
+            Ok(0) => break,
+            Err(e) if e.kind() == ErrorKind::Interrupted => {}
+            read => input.add(&part[..read?])?,
         }
-        input.add(&part[..n])?;
     }
     Ok(input)
 }
