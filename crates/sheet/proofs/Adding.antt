@@ -1,5 +1,6 @@
 -- Lines added one after the other.
 use Rattle.std.proofs.Common.{◌≡◌, ℕ, zero, suc, ◌+◌, ◌<◌, true, List, [], ◌∷◌, ◌++◌, length, get_or, take, IfOk, Ok, Err, Result, sym, refl, ap, ◌∙◌, inl, inr, arith}
+use Rattle.std.proofs.lemmas.Grind.{flat_map-append}
 use Rattle.std.proofs.lemmas.List.{append_assoc, append-nil, take_more}
 use Rattle.plan.specs.declared.record.Plan.{Plan}
 use Rattle.plan.specs.Plans.{may_hold_up}
@@ -14,8 +15,7 @@ three (Ok x) start one two all a b c p q r =
 three (Err x) start one two all a b c p q r = tt
 
 lines_more : (p : Plan) (es : List Entry) (e : Entry) → sheet_lines p (es ++ (e ∷ [])) ≡ sheet_lines p es ++ entry_lines p e
-lines_more p [] e = append-nil (entry_lines p e)
-lines_more p (x ∷ es) e = ap (λ bs. entry_lines p x ++ bs) (lines_more p es e) ∙ sym (append_assoc (entry_lines p x) (sheet_lines p es) (entry_lines p e))
+lines_more p es e = flat_map-append (entry_lines p) es (e ∷ []) ∙ ap (λ bs. sheet_lines p es ++ bs) (append-nil (entry_lines p e))
 
 -- the lines of one entry more
 pub lines_next : (p : Plan) (es : List Entry) (i : ℕ) (d : Entry) (start now next : List ℕ) → i < length es → now ≡ start ++ sheet_lines p (take i es) → next ≡ now ++ entry_lines p (get_or es i d)

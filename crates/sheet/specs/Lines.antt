@@ -1,5 +1,6 @@
 -- The bytes of the sheet's lines.
 use Rattle.std.specs.Prelude.{◌≡◌, ℕ, ◌^◌, true, false, List, [], ◌∷◌, ◌++◌}
+use Rattle.std.specs.List.{flat_map}
 use Rattle.plan.specs.declared.record.Plan.{Plan}
 use Rattle.plan.specs.Plans.{may_hold_up}
 use Rattle.machine.specs.declared.Call.{Call}
@@ -31,8 +32,7 @@ entry_lines p e =
 
 -- The lines of entries, one after the other.
 abbrev pub sheet_lines : Plan → List Entry → List ℕ
-sheet_lines p [] = []
-sheet_lines p (e ∷ es) = entry_lines p e ++ sheet_lines p es
+sheet_lines p es = flat_map (entry_lines p) es
 
 -- Each of these entries is in the table of the plan p.
 abbrev pub AllInTable : Plan → List Entry → Type 0
