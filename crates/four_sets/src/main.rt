@@ -32,45 +32,50 @@ fn lines<R: WaitingSet + Drop>(
     transcribe(Vec::new(heap), started(set, plan), calls)
 }
 
-// Prints whether the lines over a set are those that are wanted.
-fn compare<R: WaitingSet + Drop>(
-    rt: &HostRuntime,
-    name: &str,
-    set: R,
+// A plan, the calls that are made on it, and the lines that they are to give over each set.
+#[derive(Clone, Copy)]
+struct Case<'a> {
     plan: Plan,
-    calls: &[u8],
-    wanted: &[u8],
-) -> io::Result<()> {
-    let found = lines(rt.alloc(), set, plan, calls)?;
-    let verdict = if found.as_slice() == wanted {
-        "equal"
-    } else {
-        "other"
-    };
-    println!(rt; "{name}: {verdict} lines")
+    calls: &'a [u8],
+    wanted: &'a [u8],
+}
+
+impl Case<'_> {
+    // Prints whether the lines over a set are those that are wanted.
+    fn compare<R: WaitingSet + Drop>(
+        &self,
+        rt: &HostRuntime,
+        name: &str,
+        set: R,
+    ) -> io::Result<()> {
+        let found = lines(rt.alloc(), set, self.plan, self.calls)?;
+        let verdict = if found.as_slice() == self.wanted {
+            "equal"
+        } else {
+            "other"
+        };
+        println!(rt; "{name}: {verdict} lines")
+    }
 }
 
 // Runs the calls over each set.
 fn run(rt: &HostRuntime, plan: Plan, calls: &[u8]) -> io::Result<()> {
-    let lines = lines(rt.alloc(), WordSet::new(64), plan, calls)?;
-    let wanted = lines.as_slice();
+    let first = lines(rt.alloc(), WordSet::new(64), plan, calls)?;
+    let wanted = first.as_slice();
     rt.stdout().write_all(wanted)?;
-    let set = TwoLevelSet::new();
-    compare(rt, "two-level set", set, plan, calls, wanted)?;
-    let set = Pair::new(WordSet::new(40), WordSet::new(24));
-    compare(rt, "pair of words of 40 and 24", set, plan, calls, wanted)?;
-    let set = Pair::new(
-        Pair::new(WordSet::new(40), WordSet::new(24)),
-        TwoLevelSet::new(),
-    );
-    compare(
-        rt,
-        "pair of a pair and a two-level set",
-        set,
+    let case = Case {
         plan,
         calls,
         wanted,
-    )
+    };
+    case.compare(rt, "two-level set", TwoLevelSet::new())?;
+    let words = Pair::new(WordSet::new(40), WordSet::new(24));
+    case.compare(rt, "pair of words of 40 and 24", words)?;
+    let nested = Pair::new(
+        Pair::new(WordSet::new(40), WordSet::new(24)),
+        TwoLevelSet::new(),
+    );
+    case.compare(rt, "pair of a pair and a two-level set", nested)
 }
 
 fn main(rt: HostRuntime) -> io::Result<()> {

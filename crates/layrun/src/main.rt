@@ -8,7 +8,8 @@ use transcripts::input::Input;
 use transcripts::outputs::layrun;
 use transcripts::programs::{exit_code, explanation, text_of};
 
-// Standard input, to its end or to the last record that counts. The number of turns is for a reader that never ends.
+// Standard input, to its end or to the last record that counts. A loop has to have an end, hence the count, which no
+// input reaches.
 fn read_input(rt: &HostRuntime) -> io::Result<Input> {
     let mut stdin = rt.stdin();
     let mut input = Input::new(rt.alloc());
@@ -19,9 +20,8 @@ fn read_input(rt: &HostRuntime) -> io::Result<Input> {
         }
         match stdin.read(&mut part) {
             Ok(0) => break,
-            Ok(n) => input.add(&part[..n])?,
             Err(e) if e.kind() == ErrorKind::Interrupted => {}
-            Err(e) => return Err(e),
+            read => input.add(&part[..read?])?,
         }
     }
     Ok(input)

@@ -10,6 +10,9 @@ use Rattle.sheet.specs.Tables.{In, Before, Ordered}
 pub turn_more : (f : ℕ → List Entry) (n : ℕ) (start now next : List Entry) → now ≡ start ++ in_turn f n → next ≡ now ++ f n → next ≡ start ++ in_turn f (n + 1)
 turn_more f n start now next e q = q ∙ ap (λ xs. xs ++ f n) e ∙ append_assoc start (in_turn f n) (f n) ∙ ap (λ k. start ++ in_turn f k) (sym (add-one n))
 
+-- `In` is a definition by cases. The library's laws of `Contains`, which goes by places, would serve through lemmas both
+-- ways between the two, which are no shorter than these three.
+
 in_left : (xs ys : List Entry) (x : Entry) → In xs x → In (xs ++ ys) x
 in_left [] ys x i = absurd i
 in_left (y ∷ xs) ys x (inl e) = inl e

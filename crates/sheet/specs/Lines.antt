@@ -1,6 +1,8 @@
 -- The bytes of the sheet's lines.
-use Rattle.std.specs.Prelude.{ℕ, ◌^◌, false, List, [], ◌∷◌, ◌++◌}
+use Rattle.std.specs.Prelude.{◌≡◌, ℕ, ◌^◌, true, false, List, [], ◌∷◌, ◌++◌}
+use Rattle.std.specs.List.{flat_map}
 use Rattle.plan.specs.declared.record.Plan.{Plan}
+use Rattle.plan.specs.Plans.{may_hold_up}
 use Rattle.machine.specs.declared.Call.{Call}
 use Rattle.machine.specs.declared.Call.TheVariants.{Install, Release, Lock}
 use Rattle.machine.specs.Machine.{Machine, fresh, answer, step}
@@ -30,5 +32,9 @@ entry_lines p e =
 
 -- The lines of entries, one after the other.
 abbrev pub sheet_lines : Plan → List Entry → List ℕ
-sheet_lines p [] = []
-sheet_lines p (e ∷ es) = entry_lines p e ++ sheet_lines p es
+sheet_lines p es = flat_map (entry_lines p) es
+
+-- Each of these entries is in the table of the plan p.
+abbrev pub AllInTable : Plan → List Entry → Type 0
+AllInTable p [] = Unit {0}
+AllInTable p (e ∷ es) = (may_hold_up p e.low e.high e.resource ≡ true) × AllInTable p es

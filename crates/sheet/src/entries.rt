@@ -14,7 +14,7 @@ pub fn entries(heap: Global, plan: &Plan) -> Result<Vec<Entry>, AllocError>
     ensures table { IfOk result (λ v. ListsTable plan.now v.items) }
 {
     let mut out = Vec::new(heap);
-    for resource in 0..plan.resources as u16 {
+    for resource in 0..u16::from(plan.resources) {
         for low in 0..64 {
             for high in 0..64 {
                 let entry = Entry {

@@ -3,9 +3,8 @@ ghost use Rattle.std.specs.Prelude.{◌≡◌, ℕ, Bool, true, ◌++◌, OnOk};
 ghost use Rattle.plan.specs.Plans.{may_hold_up};
 ghost use Rattle.machine.specs.Machine.{step};
 ghost use Rattle.kernel.specs.Meaning.{meaning};
-ghost use Rattle.texts.specs.Sheets.{sheet_line};
-ghost use Rattle.sheet.specs.Lines.{told_of, entry_lines, sheet_lines};
-ghost use Rattle.sheet.specs.Tables.{ListsTable};
+ghost use Rattle.texts.specs.Sheets.{sheet_line, call_shown};
+ghost use Rattle.sheet.specs.Lines.{told_of, entry_lines, sheet_lines, AllInTable};
 
 use kernel::kernel::Kernel;
 use machine::Call;
@@ -15,6 +14,7 @@ use sets::waiting::WaitingSet;
 use sets::word::WordSet;
 use std::alloc::AllocError;
 use texts::sheets::{ShownCall, push_sheet_line};
+use transcripts::outputs::started;
 use transcripts::service::report_with;
 
 // Makes a call of the run that shows an entry, and adds its line.
@@ -23,29 +23,25 @@ fn push_call<R: WaitingSet>(
     kernel: &mut Kernel<R>,
     e: Entry,
     shown: ShownCall,
-    call: &Call,
 ) -> Result<(), AllocError>
-    ensures after { meaning R.room R.holds kernel.new ≡ step call.now (meaning R.room R.holds kernel.old) }
-    ensures line { OnOk result (out.new.items ≡ out.old.items ++ sheet_line e.low e.high e.resource shown (told_of call.now (meaning R.room R.holds kernel.old))) }
+    ensures after { meaning R.room R.holds kernel.new ≡ step (call_shown shown) (meaning R.room R.holds kernel.old) }
+    ensures line { OnOk result (out.new.items ≡ out.old.items ++ sheet_line e.low e.high e.resource shown (told_of (call_shown shown) (meaning R.room R.holds kernel.old))) }
 {
-    let answer = kernel.call(call);
+    let answer = kernel.call(&Call::from(shown));
     let report = report_with(kernel, answer);
     push_sheet_line(out, e, shown, &report)
 }
 
-// Adds the three lines of an entry of the plan's table.
+// Adds the three lines of an entry of the plan's table. The calls are those of `runs::entries::show_entry`; here a line
+// is told between them, and the kernel is not handed on.
 fn push_entry(out: &mut Vec<u8>, plan: &Plan, e: Entry) -> Result<(), AllocError>
     requires { may_hold_up plan.now e.low e.high e.resource ≡ true }
     ensures { OnOk result (out.new.items ≡ out.old.items ++ entry_lines plan.now e) }
 {
-    let mut kernel = Kernel::new(WordSet::new(64));
-    let _ = kernel.call(&Call::Install(*plan));
-    let low = Call::Release(1 << e.low);
-    let lock = Call::Lock(e.resource);
-    let high = Call::Release(1 << e.high);
-    push_call(out, &mut kernel, e, ShownCall::Release(e.low), &low)?;
-    push_call(out, &mut kernel, e, ShownCall::Lock(e.resource), &lock)?;
-    push_call(out, &mut kernel, e, ShownCall::Release(e.high), &high)
+    let mut kernel = started(WordSet::new(64), *plan);
+    push_call(out, &mut kernel, e, ShownCall::Release(e.low))?;
+    push_call(out, &mut kernel, e, ShownCall::Lock(e.resource))?;
+    push_call(out, &mut kernel, e, ShownCall::Release(e.high))
 }
 
 // Adds the lines of the entries of the plan's table.
@@ -54,7 +50,7 @@ pub(crate) fn push_entries(
     plan: &Plan,
     entries: &[Entry],
 ) -> Result<(), AllocError>
-    requires { ListsTable plan.now entries.now }
+    requires { AllInTable plan.now entries.now }
     ensures { OnOk result (out.new.items ≡ out.old.items ++ sheet_lines plan.now entries.now) }
 {
     for e in entries {

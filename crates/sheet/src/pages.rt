@@ -13,7 +13,8 @@ use std::alloc::{AllocError, Global};
 use texts::tables::Table;
 use transcripts::plans::read_plan;
 
-// The sheet of what a plan text came to.
+// The sheet of what a plan text came to. `tell` of the transcripts has the same steps; one function for both would be
+// public and take what fills the table as a closure, and so ask something of its caller.
 pub fn sheet_of(heap: Global, read: &Result<Plan, PlanFault>) -> Result<Vec<u8>, AllocError>
     ensures { IfOk result (λ v. v.items ≡ sheet_for read.now) }
 {

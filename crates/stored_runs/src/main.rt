@@ -13,23 +13,8 @@ fn show(rt: &HostRuntime, name: &str, out: &[u8]) -> io::Result<()> {
     rt.stdout().write_all(out)
 }
 
-// Prints the output of layrun on one pair of files.
-fn run(rt: &HostRuntime, name: &str, plan: &str, calls: &str) -> io::Result<()> {
-    let text = fs::read(rt, plan)?;
-    let input = fs::read(rt, calls)?;
-    let out = layrun(rt.alloc(), text.as_slice(), input.as_slice())?;
-    show(rt, name, out.as_slice())
-}
-
-// Prints the blocking sheet of one plan.
-fn tabulate(rt: &HostRuntime, name: &str, plan: &str) -> io::Result<()> {
-    let text = fs::read(rt, plan)?;
-    let out = blocksheet(rt.alloc(), text.as_slice())?;
-    show(rt, name, out.as_slice())
-}
-
 fn main(rt: HostRuntime) -> io::Result<()> {
-    let runs = [
+    for (name, plan, calls) in [
         ("nested resources and events", "nested.oil", "nested.calls"),
         (
             "mixed line ends, none after the last record",
@@ -38,10 +23,19 @@ fn main(rt: HostRuntime) -> io::Result<()> {
         ),
         ("no record", "empty.oil", "empty.calls"),
         ("a refused plan", "refused.oil", "refused.calls"),
-    ];
-    for (name, plan, calls) in runs {
-        run(&rt, name, plan, calls)?;
+    ] {
+        let text = fs::read(&rt, plan)?;
+        let input = fs::read(&rt, calls)?;
+        let out = layrun(rt.alloc(), text.as_slice(), input.as_slice())?;
+        show(&rt, name, out.as_slice())?;
     }
-    tabulate(&rt, "the sheet of nested resources", "nested.oil")?;
-    tabulate(&rt, "the sheet of a refused plan", "refused.oil")
+    for (name, plan) in [
+        ("the sheet of nested resources", "nested.oil"),
+        ("the sheet of a refused plan", "refused.oil"),
+    ] {
+        let text = fs::read(&rt, plan)?;
+        let out = blocksheet(rt.alloc(), text.as_slice())?;
+        show(&rt, name, out.as_slice())?;
+    }
+    Ok(())
 }

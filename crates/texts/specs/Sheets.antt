@@ -1,5 +1,7 @@
 -- The bytes of the blocking sheet's lines.
 use Rattle.std.specs.Prelude.{ℕ, ◌+◌, ◌/◌, ◌^◌, min, List, [], ◌++◌, codes, decimal}
+use Rattle.machine.specs.declared.Call.{Call}
+use Rattle.machine.specs.declared.Call.TheVariants as calls
 use Rattle.texts.specs.declared.outcomes.Report.{Report}
 use Rattle.texts.specs.declared.sheets.ShownCall.{ShownCall}
 use Rattle.texts.specs.declared.sheets.ShownCall.TheVariants.{Release, Lock}
@@ -10,6 +12,11 @@ use Rattle.texts.specs.Outcomes.{outcome_number}
 -- The vector of task t in hexadecimal digits, without leading zeros: task t counts 2 to the t. Tasks are at most 63.
 abbrev pub task_vector : ℕ → List ℕ
 task_vector t = hex (min t 63 / 4 + 1) (2 ^ min t 63)
+
+-- The call that is shown: the release of the vector of one task, or the lock of a resource. Tasks are at most 63.
+abbrev pub call_shown : ShownCall → Call
+call_shown (Release t) = calls.Release (2 ^ min t 63)
+call_shown (Lock r) = calls.Lock r
 
 -- A call as the sheet writes it.
 abbrev pub call_text : ShownCall → List ℕ

@@ -3,11 +3,12 @@ ghost use Rattle.std.specs.Prelude.{◌≡◌, ◌+◌, ◌≤◌, [], ◌++◌,
 ghost use Rattle.texts.specs.Fronts.{text_of};
 ghost use Rattle.texts.specs.Outputs.{Appended};
 ghost use Rattle.texts.specs.Lines.{field};
-ghost use Rattle.texts.specs.Sheets.{call_text, entry_part, report_part, sheet_line};
+ghost use Rattle.texts.specs.Sheets.{call_shown, call_text, entry_part, report_part, sheet_line};
 
 use crate::fronts::Front;
 use crate::lines::{put_number, put_optional, put_some, put_vector};
 use crate::outcomes::Report;
+use machine::Call;
 use plan::entry::Entry;
 use std::alloc::AllocError;
 
@@ -16,6 +17,19 @@ use std::alloc::AllocError;
 pub enum ShownCall {
     Release(u8),
     Lock(u16),
+}
+
+// The call that is shown.
+impl From<ShownCall> for Call {
+    ghost from_gives = { λ shown call. call ≡ call_shown shown };
+
+    fn from(shown: ShownCall) -> Call {
+        match shown {
+            // Callers may pass any number, and tasks are at most 63.
+            ShownCall::Release(t) => Call::Release(1 << t.min(63)),
+            ShownCall::Lock(r) => Call::Lock(r),
+        }
+    }
 }
 
 // Puts the call before the text: a task's vector is written without leading zeros.

@@ -11,5 +11,5 @@ pub fn diagnose(heap: Global, text: &[u8], fault: &PlanFault) -> Result<String, 
     ensures { IfOk result (λ s. string_bytes s ≡ diagnosis text.now fault.now) }
 {
     let at = locate(text, fault.place());
-    format!(in heap; "plan.oil:{}:{}: {}", at.line, at.column, fault.explain())
+    format!(in heap; "plan.oil:{}:{}: {fault}", at.line, at.column)
 }

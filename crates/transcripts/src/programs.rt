@@ -1,4 +1,6 @@
-// What the programs share: the plan text that they read, what they tell of a refused one, and how they end.
+// What the programs share: the plan text that they read, what they tell of a refused one, and how they end. What comes
+// between stands in each program: one function for both would be public and take a closure, and so ask something of its
+// caller.
 ghost use Rattle.std.specs.Prelude.{is_ok, if◌then◌else◌, ◌≡◌, IfOk};
 ghost use Rattle.std.specs.Process.{exit_status};
 ghost use Rattle.transcripts.specs.Programs.{TextOf, Explains};

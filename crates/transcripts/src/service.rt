@@ -27,7 +27,6 @@ fn report<R: WaitingSet>(kernel: &Kernel<R>, outcome: Outcome, mark: Option<bool
 pub fn report_with<R: WaitingSet>(kernel: &Kernel<R>, answer: Result<Reply, Refusal>) -> Report
     ensures { result ≡ told_with answer (meaning R.room R.holds kernel.now) }
 {
-    // A match: each case has an outcome and a mark of its own.
     match answer {
         Ok(reply) => report(kernel, Outcome::Accepted, reply.mark),
         Err(why) => report(kernel, Outcome::Refused(why), None),

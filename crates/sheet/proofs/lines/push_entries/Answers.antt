@@ -1,9 +1,9 @@
 use Rattle.std.proofs.Common.{vec_items}
-use Rattle.sheet.proofs.Adding.{lines_next, in_at}
+use Rattle.sheet.proofs.Adding.{lines_next, in_table}
 use Rattle.sheet.proofs.lines.push_entries.Goals as goal
 
 pub push_entry-requires : goal.push_entry-requires
-push_entry-requires c = c.requires.sound _ (in_at c.args.entries.now c.loop-e.e-index _ c.loop-e-test.true)
+push_entry-requires c = in_table c.args.plan.now c.args.entries.now c.loop-e.e-index _ c.requires c.loop-e-test.true
 
 pub loop-e-preserved : goal.loop-e-preserved
 loop-e-preserved c =

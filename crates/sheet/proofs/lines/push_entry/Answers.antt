@@ -1,7 +1,6 @@
-use Rattle.std.proofs.Common.{◌≡◌, ℕ, ◌<◌, Bool, false, ◌++◌, IfOk, vec_items, ap, ◌∙◌, subst, ap₂, arith}
+use Rattle.std.proofs.Common.{◌≡◌, ℕ, ◌<◌, ◌^◌, min, Bool, false, ◌++◌, IfOk, vec_items, ap, ◌∙◌, subst, ap₂, arith}
 use mathlib.Core.Path.{fun_ext}
 use Rattle.vectors.specs.Vectors.{in_vector}
-use Rattle.vectors.proofs.Bits.{shifted_is}
 use Rattle.vectors.proofs.Vectors.{in_none}
 use Rattle.machine.specs.declared.Call.TheVariants.{Install, Release, Lock}
 use Rattle.machine.specs.Machine.{Machine, fresh, step}
@@ -23,12 +22,12 @@ returns c =
     let r = e.resource in
     let b = bounds p l t r c.requires in
     let small : l < 64 = omega (arith, b.below, b.task) in
-    let a = shifted_is 64 l small in
-    let d = shifted_is 64 t b.task in
+    let a : 2 ^ min l 63 ≡ 2 ^ l = ap (λ n. 2 ^ n) (omega (arith, small)) in
+    let d : 2 ^ min t 63 ≡ 2 ^ t = ap (λ n. 2 ^ n) (omega (arith, b.task)) in
     let s = c.new.result in
     let empty : ◌≡◌ {A = ℕ → Bool} (in_vector s.word) (λ t. false) = ap in_vector c.new.ensures.empty ∙ fun_ext in_none in
     let start : fresh s.size (in_vector s.word) ≡ fresh 64 (λ t. false) = ap₂ (λ (n : ℕ) (w : ℕ → Bool). fresh n w) c.new.ensures.size empty in
-    let begun = c.call.ensures.after ∙ ap (step (Install p)) (c.new-kernel.ensures.made ∙ start) in
+    let begun = c.started-kernel.ensures ∙ ap (step (Install p)) start in
     let released = c.push_call.ensures.after ∙ ap₂ (λ (n : ℕ) (m : Machine). step (Release n) m) a begun in
     let locked = c.push_call-2.ensures.after ∙ ap (step (Lock r)) released in
     let one = ap₂ (λ (n : ℕ) (m : Machine). told_of (Release n) m) a begun in
