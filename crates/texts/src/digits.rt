@@ -15,7 +15,7 @@ fn read_digits(field: &[u8], radix: u32, most: usize) -> Option<u64>
     let mut value = 0;
     for b in field {
         let digit = char::from(*b).to_digit(radix)?;
-        value = value * radix as u64 + digit as u64;
+        value = value * u64::from(radix) + u64::from(digit);
     }
     Some(value)
 }

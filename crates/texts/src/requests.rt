@@ -1,4 +1,5 @@
-// The call that a record spells.
+// The call that a record spells. The functions marked `inline` cost a third of a record's instructions otherwise: a call
+// has room for a plan, which is cleared and copied where one function hands it to another.
 ghost use Rattle.std.specs.Prelude.{◌≡◌, [], Some, MatchOption};
 ghost use Rattle.texts.specs.Pieces.{pieces};
 ghost use Rattle.texts.specs.Requests.{asked_bare, asked_one, asked_two, asked_with, asked, Asks};
@@ -13,14 +14,8 @@ use machine::Call;
 fn read_bare(verb: Verb) -> Option<Call>
     ensures { result ≡ asked_bare verb }
 {
-    match verb {
-        Verb::Exits => Some(Call::Exit),
-        _ => None,
-    }
+    (verb == Verb::Exits).then_some(Call::Exit)
 }
-
-// The functions marked `inline` cost a third of a record's instructions otherwise: a call has room for a plan, which
-// is cleared and copied where one function hands it to another.
 
 // The call of a verb with one field.
 #[inline(always)]
@@ -28,13 +23,13 @@ fn read_one(verb: Verb, field: &[u8]) -> Option<Call>
     ensures { result ≡ asked_one verb field.now }
 {
     match verb {
-        Verb::Releases => Some(Call::Release(read_vector(field)?)),
-        Verb::Locks => Some(Call::Lock(read_number(field)?)),
-        Verb::Unlocks => Some(Call::Unlock(read_number(field)?)),
+        Verb::Releases => read_vector(field).map(Call::Release),
+        Verb::Locks => read_number(field).map(Call::Lock),
+        Verb::Unlocks => read_number(field).map(Call::Unlock),
         Verb::Exits => None,
-        Verb::Signals => Some(Call::Signal(read_number(field)?, None)),
-        Verb::SignalReleases => Some(Call::SignalRelease(read_number(field)?, None)),
-        Verb::Tests => Some(Call::Test(read_number(field)?)),
+        Verb::Signals => read_number(field).map(|n| Call::Signal(n, None)),
+        Verb::SignalReleases => read_number(field).map(|n| Call::SignalRelease(n, None)),
+        Verb::Tests => read_number(field).map(Call::Test),
     }
 }
 
@@ -66,7 +61,8 @@ fn read_fields(verb: Verb, fields: &[u8]) -> Option<Call>
     }
 }
 
-// The word of a record, and its fields where there are any. What the record asks for by them is what it spells.
+// The word of a record, and its fields where there are any. What the record asks for by them is what it spells. Without
+// this function, whose clauses tie the fields to the call, `read_call` was tried, and was not proved.
 fn cut_word(text: &[u8]) -> (&[u8], Option<&[u8]>)
     ensures asks { MatchOption result.1 (Asks text.now result.0.now []) (λ fields. Asks text.now result.0.now (pieces 44 fields.now)) }
     ensures spells { AsksWhatItSpells text.now }
