@@ -37,7 +37,7 @@ pub fn cut_record(rest: &[u8]) -> Option<(&[u8], &[u8])>
 }
 
 // How many line ends a short row of bytes has. Its count has 8 bits, so that a row is counted 16 bytes at a time:
-// `filter` and `count` over all the bytes take a tenth more instructions of a whole run.
+// `filter` and `count`, which count in a `usize`, take a tenth more instructions of a whole run.
 fn few_line_ends(row: &[u8]) -> u8
     requires { length row.now ≤ 128 }
     ensures { result ≡ feeds row.now }
