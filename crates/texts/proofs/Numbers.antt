@@ -3,22 +3,10 @@ use Rattle.std.proofs.Common.{◌≡◌, ℕ, zero, suc, ◌+◌, ◌*◌, ◌^�
 use native.Mathlib.Nat.{pow-le-pow_right}
 use Rattle.std.specs.Str.Parse.{digits_value, AllDigits}
 use Rattle.std.specs.Char.{digit_value}
-use Rattle.std.proofs.lemmas.Int.Digits.{digits_value-lt, digits_value_more}
+use Rattle.std.proofs.lemmas.Int.Digits.{digits_push, digits_value-lt, digits_value_more}
 use Rattle.std.proofs.lemmas.List.{take_more, length-take-le}
 use Rattle.std.proofs.lemmas.Bool.{and_parts, and_from, and_left, and_right, ltb-true, leb-true, lt-ltb, le-ltb, le-leb, lt-leb, cond-true, cond-false}
 use Rattle.texts.specs.Digits.{all_digits, is_number, number}
-
-digits_push : (radix : ℕ) (ds : List ℕ) (x : ℕ) → all_digits radix ds ≡ true → digit_value x < radix → all_digits radix (ds ++ x ∷ []) ≡ true
-digits_push radix [] x all lt = and_from _ _ (lt-ltb _ _ lt) refl
-digits_push radix (d ∷ ds) x all lt = let p = and_parts _ _ all in and_from _ _ p.0 (digits_push radix ds x p.1 lt)
-
-pub digits_more : (radix : ℕ) (ds : List ℕ) (i : ℕ) → i < length ds → all_digits radix (take i ds) ≡ true → digit_value (get_or ds i 0) < radix → all_digits radix (take (i + 1) ds) ≡ true
-digits_more radix ds i lt all is = ap (all_digits radix) (take_more ds i 0 lt) ∙ digits_push radix (take i ds) (get_or ds i 0) all is
-
-not_digits : (radix : ℕ) (ds : List ℕ) (i : ℕ) → i < length ds → radix ≤ digit_value (get_or ds i 0) → all_digits radix ds ≡ false
-not_digits radix [] i lt le = absurd (omega arith)
-not_digits radix (d ∷ ds) zero lt le = and_left _ _ (le-ltb _ _ le)
-not_digits radix (d ∷ ds) (suc i) lt le = and_right _ _ (not_digits radix ds i (omega arith) le)
 
 pub digits_from : (radix : ℕ) (ds : List ℕ) → all_digits radix ds ≡ true → AllDigits radix ds
 digits_from radix [] all = tt
@@ -27,6 +15,14 @@ digits_from radix (d ∷ ds) all = let p = and_parts _ _ all in (ltb-true _ _ p.
 pub digits_to : (radix : ℕ) (ds : List ℕ) → AllDigits radix ds → all_digits radix ds ≡ true
 digits_to radix [] h = refl
 digits_to radix (d ∷ ds) h = and_from _ _ (lt-ltb _ _ h.0) (digits_to radix ds h.1)
+
+pub digits_more : (radix : ℕ) (ds : List ℕ) (i : ℕ) → i < length ds → all_digits radix (take i ds) ≡ true → digit_value (get_or ds i 0) < radix → all_digits radix (take (i + 1) ds) ≡ true
+digits_more radix ds i lt all is = ap (all_digits radix) (take_more ds i 0 lt) ∙ digits_to radix _ (digits_push radix (take i ds) (get_or ds i 0) (digits_from radix _ all) is)
+
+not_digits : (radix : ℕ) (ds : List ℕ) (i : ℕ) → i < length ds → radix ≤ digit_value (get_or ds i 0) → all_digits radix ds ≡ false
+not_digits radix [] i lt le = absurd (omega arith)
+not_digits radix (d ∷ ds) zero lt le = and_left _ _ (le-ltb _ _ le)
+not_digits radix (d ∷ ds) (suc i) lt le = and_right _ _ (not_digits radix ds i (omega arith) le)
 
 -- The value of one digit more has room.
 pub room : (radix most i : ℕ) (ds : List ℕ) → 2 ≤ radix → radix ^ most ≤ 2 ^ 64 → length ds ≤ most → i < length ds → all_digits radix (take i ds) ≡ true → digit_value (get_or ds i 0) < radix →

@@ -1,6 +1,6 @@
 -- The records of an input are its only reading by line ends.
 use Rattle.std.proofs.Common.{◌≡◌, ℕ, ◌+◌, ◌-◌, ◌<◌, Bool, true, false, cond, eqb, ◌⊎◌, List, [], ◌∷◌, ◌++◌, length, get_or, take, sym, refl, ap, ◌∙◌, subst, inl, inr, ⊎_elim, append_assoc, arith, length-append, Option, Some, None, Bor, MatchOption, unwrap_or}
-use Rattle.std.proofs.lemmas.List.{take_more, take_all, take_at, length_push, get_or_push}
+use Rattle.std.proofs.lemmas.List.{nil_from_length, take_more, take_all, take_at, length_push, get_or_push}
 use Rattle.std.proofs.lemmas.Bool.{eqb-true, eqb-false, eq-eqb, ne_eqb, cond-true, cond-false}
 use Rattle.texts.specs.Pieces.{Lacks, pieces}
 use Rattle.texts.specs.Records.{without_return, among_lines, records}
@@ -81,9 +81,9 @@ records_last : (l : List ℕ) → Lacks 10 l → 0 < length l → records l ≡ 
 unfolding records
 records_last l h some = ap among_lines (pieces_last 10 l h) ∙ cond-false (eqb (length l) 0) [] (l ∷ []) (ne_eqb _ 0 (λ e. omega arith))
 
-pub records_none : records [] ≡ []
+pub records_nothing : (bs : List ℕ) → length bs ≡ 0 → records bs ≡ []
 unfolding records
-records_none = ap among_lines (pieces_last 10 [] tt)
+records_nothing bs none = ap records (nil_from_length bs none) ∙ ap among_lines (pieces_last 10 [] tt)
 
 no_return_lacks : (r : List ℕ) → Lacks 10 r → Lacks 10 (r ++ 13 ∷ [])
 no_return_lacks [] h = ((λ e. omega arith), tt)
@@ -97,11 +97,11 @@ records_begin r rest bs b =
     (λ e. ap records (e ∙ sym (append_assoc r (13 ∷ []) (10 ∷ rest))) ∙ records_line (r ++ 13 ∷ []) rest (no_return_lacks r b.0) ∙ ap (λ x. x ∷ records rest) (returned r))
     (λ p. ap records p.0 ∙ records_line r rest b.0 ∙ ap (λ x. x ∷ records rest) (kept r p.1))
     ended)
-    (λ last. ap records last.0 ∙ records_last r b.0 last.2 ∙ ap (λ l. r ∷ l) (sym (ap records last.1 ∙ records_none)))
+    (λ last. ap records last.0 ∙ records_last r b.0 last.2 ∙ ap (λ l. r ∷ l) (sym (records_nothing rest (ap length last.1))))
     b.1
 
 only : (rs : List (List ℕ)) (bs : List ℕ) → Reading rs bs → rs ≡ records bs
-only [] bs h = sym (ap records h ∙ records_none)
+only [] bs h = sym (records_nothing bs (ap length h))
 only (r ∷ rs) bs h = ap (λ l. r ∷ l) (only rs h.0 h.2) ∙ sym (records_begin r h.0 bs h.1)
 
 reading_last : (l : List ℕ) → Lacks 10 l → Reading (among_lines (l ∷ [])) l

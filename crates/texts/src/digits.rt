@@ -15,7 +15,7 @@ fn read_digits(field: &[u8], radix: u32, most: usize) -> Option<u64>
     let mut value = 0;
     for b in field {
         let digit = char::from(*b).to_digit(radix)?;
-        value = value * radix as u64 + digit as u64;
+        value = value * u64::from(radix) + u64::from(digit);
     }
     Some(value)
 }
@@ -24,7 +24,7 @@ fn read_digits(field: &[u8], radix: u32, most: usize) -> Option<u64>
 pub(crate) fn read_number(field: &[u8]) -> Option<u16>
     ensures { result ≡ number_field field.now }
 {
-    Some(read_digits(field, 10, 3)? as u16)
+    read_digits(field, 10, 3).map(|n| n as u16)
 }
 
 // A task vector: 1 to 16 hexadecimal digits.

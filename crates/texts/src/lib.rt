@@ -6,7 +6,6 @@ mod digits;
 mod fronts;
 pub mod lines;
 pub mod outcomes;
-mod outputs;
 mod pieces;
 pub mod records;
 pub mod requests;

@@ -4,7 +4,8 @@ ghost use Rattle.texts.specs.Outcomes.{outcome_number};
 
 use machine::Refusal;
 
-// What came of a record: its call was accepted, or was refused, or it spells no call.
+// What came of a record: its call was accepted, or was refused, or it spells no call. A line has a field for these
+// three, and one for the mark, so a `Result` of the mark would be taken apart for each.
 #[derive(Clone, Copy, PartialEq, Debug)]
 pub enum Outcome {
     Accepted,

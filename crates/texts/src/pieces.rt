@@ -3,7 +3,8 @@ ghost use Rattle.std.specs.Prelude.{◌≡◌, [], ◌∷◌, ◌++◌, ◌==◌
 ghost use Rattle.std.specs.List.{position};
 ghost use Rattle.texts.specs.Pieces.{Lacks, pieces};
 
-// The place of the first byte that is b.
+// The place of the first byte that is b. A function of its own: in `cut_at` what `position` says of its runs was tried,
+// and did not give the place in the list.
 fn place(bytes: &[u8], b: u8) -> Option<usize>
     ensures { result ≡ position (λ x. x == b) bytes.now }
 {

@@ -12,15 +12,6 @@ fn without_return(line: &[u8]) -> &[u8]
     line.strip_suffix(b"\r").unwrap_or(line)
 }
 
-// Whether nothing is left of an input. What is left has one reading by line ends, which is its records.
-fn is_over(rest: &[u8]) -> bool
-    ensures none { result ≡ true → (rest.now ≡ []) × (records rest.now ≡ []) }
-    ensures some { result ≡ false → 0 < length rest.now }
-    ensures reads { ReadByLineEnds rest.now }
-{
-    rest.is_empty()
-}
-
 // The first record of an input that is not over, and what follows its end.
 fn first_record(rest: &[u8]) -> (&[u8], &[u8])
     requires { 0 < length rest.now }
@@ -35,45 +26,34 @@ fn first_record(rest: &[u8]) -> (&[u8], &[u8])
 }
 
 // The first record of what is left of an input, and what follows its end; none where nothing is left.
+#[tactic(auto, using(crate::proofs::Read::records_nothing))]
 pub fn cut_record(rest: &[u8]) -> Option<(&[u8], &[u8])>
     ensures begins { MatchOption result (rest.now ≡ []) (λ cut. Begins cut.0.now cut.1.now rest.now) }
     ensures cuts { MatchOption result (records rest.now ≡ []) (λ cut. records rest.now ≡ cut.0.now ∷ records cut.1.now) }
     ensures shorter { IfSome result (λ cut. length cut.1.now < length rest.now) }
     ensures reads { ReadByLineEnds rest.now }
 {
-    if is_over(rest) {
-        None
-    } else {
-        Some(first_record(rest))
-    }
+    (!rest.is_empty()).then(|| first_record(rest))
 }
 
 // How many line ends a short row of bytes has. Its count has 8 bits, so that a row is counted 16 bytes at a time:
-// `filter` and `count` over all the bytes take a tenth more instructions of a whole run.
+// `filter` and `count`, which count in a `usize`, take a tenth more instructions of a whole run.
 fn few_line_ends(row: &[u8]) -> u8
     requires { length row.now ≤ 128 }
     ensures { result ≡ feeds row.now }
 {
-    let mut count = 0u8;
-    for b in row {
-        if *b == b'\n' {
-            count += 1;
-        }
-    }
-    count
+    row.iter().map(|b| u8::from(*b == b'\n')).sum()
 }
 
 // How many line ends the bytes have. As many records of an input are settled: what follows does not change them.
+#[tactic(auto, using(crate::proofs::Settled::settled))]
 pub fn line_ends(bytes: &[u8]) -> usize
     ensures count { result ≡ feeds bytes.now }
     ensures settles { Settled result bytes.now }
 {
     let mut count = 0;
-    let mut rest = bytes;
-    while rest.len() > 128 {
-        let (row, after) = rest.split_at(128);
-        count += few_line_ends(row) as usize;
-        rest = after;
+    for row in bytes.chunks(128) {
+        count += usize::from(few_line_ends(row));
     }
-    count + few_line_ends(rest) as usize
+    count
 }

@@ -1,4 +1,6 @@
-// The call that a record spells.
+// The call that a record spells. The functions marked `inline` cost a third of a record's instructions otherwise: a call
+// has room for a plan, which is cleared and copied where one function hands it to another. `Some(Call::Lock(n?))` and
+// the like stand for the same reason: by `map` and `then_some` a whole run took nearly twice the instructions.
 ghost use Rattle.std.specs.Prelude.{◌≡◌, [], Some, MatchOption};
 ghost use Rattle.texts.specs.Pieces.{pieces};
 ghost use Rattle.texts.specs.Requests.{asked_bare, asked_one, asked_two, asked_with, asked, Asks};
@@ -18,9 +20,6 @@ fn read_bare(verb: Verb) -> Option<Call>
         _ => None,
     }
 }
-
-// The functions marked `inline` cost a third of a record's instructions otherwise: a call has room for a plan, which
-// is cleared and copied where one function hands it to another.
 
 // The call of a verb with one field.
 #[inline(always)]
@@ -66,7 +65,8 @@ fn read_fields(verb: Verb, fields: &[u8]) -> Option<Call>
     }
 }
 
-// The word of a record, and its fields where there are any. What the record asks for by them is what it spells.
+// The word of a record, and its fields where there are any. What the record asks for by them is what it spells. Without
+// this function, whose clauses tie the fields to the call, `read_call` was tried, and was not proved.
 fn cut_word(text: &[u8]) -> (&[u8], Option<&[u8]>)
     ensures asks { MatchOption result.1 (Asks text.now result.0.now []) (λ fields. Asks text.now result.0.now (pieces 44 fields.now)) }
     ensures spells { AsksWhatItSpells text.now }

@@ -1,12 +1,11 @@
 // The line of the blocking sheet that tells of one call of the run that shows an entry: eight fields, and CR LF.
 ghost use Rattle.std.specs.Prelude.{◌≡◌, ◌+◌, ◌≤◌, [], ◌++◌, decimal, OnOk};
-ghost use Rattle.texts.specs.Fronts.{text_of};
+ghost use Rattle.texts.specs.Fronts.{text_of, Puts};
 ghost use Rattle.texts.specs.Outputs.{Appended};
 ghost use Rattle.texts.specs.Lines.{field};
 ghost use Rattle.texts.specs.Sheets.{call_shown, call_text, entry_part, report_part, sheet_line};
 
 use crate::fronts::Front;
-use crate::lines::{put_number, put_optional, put_some, put_vector};
 use crate::outcomes::Report;
 use machine::Call;
 use plan::entry::Entry;
@@ -32,22 +31,23 @@ impl From<ShownCall> for Call {
     }
 }
 
-// Puts the call before the text: a task's vector is written without leading zeros.
-fn put_call(text: &mut Front, call: ShownCall)
-    requires { 25 ≤ text.old.start }
-    ensures text { text_of text.new ≡ call_text call ++ text_of text.old }
-    ensures room { text.old.start ≤ text.new.start + 25 }
-{
-    match call {
-        ShownCall::Release(t) => {
-            // Callers may pass any number, and tasks are at most 63.
-            let task = t.min(63);
-            text.put_digits(1 << task, task / 4 + 1);
-            text.put_all(b"release ");
-        }
-        ShownCall::Lock(r) => {
-            text.put_decimal(r as u64);
-            text.put_all(b"lock ");
+impl Front {
+    // Puts the call before the text: a task's vector is written without leading zeros.
+    fn put_call(&mut self, call: ShownCall)
+        requires { 25 ≤ self.old.start }
+        ensures { Puts 25 (λ text. call_text call ++ text) self.old self.new }
+    {
+        match call {
+            ShownCall::Release(t) => {
+                // Callers may pass any number, and tasks are at most 63.
+                let task = t.min(63);
+                self.put_digits(1 << task, task / 4 + 1);
+                self.put_all(b"release ");
+            }
+            ShownCall::Lock(r) => {
+                self.put_decimal(u64::from(r));
+                self.put_all(b"lock ");
+            }
         }
     }
 }
@@ -58,10 +58,10 @@ fn entry_text(entry: Entry, call: ShownCall) -> Front
 {
     let mut text = Front::empty();
     text.put(b',');
-    put_call(&mut text, call);
-    put_number(&mut text, entry.resource as u64);
-    put_number(&mut text, entry.high as u64);
-    put_number(&mut text, entry.low as u64);
+    text.put_call(call);
+    text.put_number(u64::from(entry.resource));
+    text.put_number(u64::from(entry.high));
+    text.put_number(u64::from(entry.low));
     text
 }
 
@@ -71,10 +71,10 @@ fn report_text(report: &Report) -> Front
 {
     let mut text = Front::empty();
     text.put_all(b"\r\n");
-    put_some(&mut text, report.ceiling);
-    put_vector(&mut text, report.waiting);
-    put_optional(&mut text, report.running);
-    put_number(&mut text, report.outcome.number() as u64);
+    text.put_some(report.ceiling);
+    text.put_vector(report.waiting);
+    text.put_optional(report.running);
+    text.put_number(u64::from(report.outcome.number()));
     text
 }
 

@@ -1,6 +1,6 @@
 // The record that spells a call.
 ghost use Rattle.std.specs.Prelude.{◌≡◌, ◌+◌, ◌≤◌, true, false, ◌++◌, MatchOption, OnSome};
-ghost use Rattle.texts.specs.Fronts.{text_of, hex};
+ghost use Rattle.texts.specs.Fronts.{text_of, Puts, hex};
 ghost use Rattle.texts.specs.Lines.{field};
 ghost use Rattle.texts.specs.Verbs.{word_of};
 ghost use Rattle.texts.specs.declared.spellings.Unwritten.TheVariants.{NoMemory};
@@ -26,13 +26,27 @@ impl From<AllocError> for Unwritten {
     }
 }
 
-// Puts a verb and its comma before the text.
-fn put_verb(text: &mut Front, verb: Verb)
-    requires { 14 ≤ text.old.start }
-    ensures { text_of text.new ≡ field (word_of verb) (text_of text.old) }
-{
-    text.put(b',');
-    text.put_all(verb.word());
+impl Front {
+    // Puts a verb and its comma before the text.
+    fn put_verb(&mut self, verb: Verb)
+        requires { 14 ≤ self.old.start }
+        ensures { Puts 14 (field (word_of verb)) self.old self.new }
+    {
+        self.put(b',');
+        self.put_all(verb.word());
+    }
+
+    // Puts a comma and a vector, where there is one, before the text.
+    fn put_vector_after(&mut self, v: Option<u64>)
+        requires { 17 ≤ self.old.start }
+        ensures puts { Puts 17 (λ text. vector_after v ++ text) self.old self.new }
+        ensures fits { FitsVector v }
+    {
+        if let Some(x) = v {
+            self.put_hex(x);
+            self.put(b',');
+        }
+    }
 }
 
 // The text of a verb and a vector.
@@ -41,21 +55,8 @@ fn vector_text(verb: Verb, v: u64) -> Front
 {
     let mut text = Front::empty();
     text.put_hex(v);
-    put_verb(&mut text, verb);
+    text.put_verb(verb);
     text
-}
-
-// Puts a comma and a vector, where there is one, before the text.
-fn put_vector_after(text: &mut Front, v: Option<u64>)
-    requires { 17 ≤ text.old.start }
-    ensures text { text_of text.new ≡ vector_after v ++ text_of text.old }
-    ensures room { text.old.start ≤ text.new.start + 17 }
-    ensures fits { FitsVector v }
-{
-    if let Some(x) = v {
-        text.put_hex(x);
-        text.put(b',');
-    }
 }
 
 // The text of a verb and a number, with a vector where there is one; none for a number of more than 3 digits.
@@ -67,9 +68,9 @@ fn number_text(verb: Verb, n: u16, v: Option<u64>) -> Option<Front>
         return None;
     }
     let mut text = Front::empty();
-    put_vector_after(&mut text, v);
-    text.put_decimal(n as u64);
-    put_verb(&mut text, verb);
+    text.put_vector_after(v);
+    text.put_decimal(u64::from(n));
+    text.put_verb(verb);
     Some(text)
 }
 
@@ -99,20 +100,13 @@ fn spell(call: &Call) -> Option<Front>
     }
 }
 
-// The same, with the law that the record reads back as the call.
-fn record_text(call: &Call) -> Option<Front>
-    ensures means { MatchOption result (has_record call.now ≡ false) (λ f. (has_record call.now ≡ true) × (text_of f ≡ record_of call.now)) }
-    ensures law { ReadsBack call.now }
-{
-    spell(call)
-}
-
 // Adds the record of a call to the output, without a line end; nothing where it has none. The record reads
 // back as the call, and a call has none only where nothing spells it.
+#[tactic(auto, using(crate::proofs::Backs::law))]
 pub fn push_call(out: &mut Vec<u8>, call: &Call) -> Result<(), Unwritten>
     ensures writes { Spelt call.now out.old result out.new }
     ensures law { ReadsBack call.now }
 {
-    let text = record_text(call).ok_or(Unwritten::NoRecord)?;
+    let text = spell(call).ok_or(Unwritten::NoRecord)?;
     Ok(text.add_to(out)?)
 }

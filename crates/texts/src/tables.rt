@@ -7,8 +7,6 @@ ghost use Rattle.texts.specs.Outputs.{Appended};
 ghost use Rattle.texts.specs.Tables.{table_header, table_fault};
 
 use crate::fronts::Front;
-use crate::lines::put_number;
-use crate::outputs::add;
 use std::alloc::AllocError;
 
 #[derive(Clone, Copy, PartialEq, Debug)]
@@ -24,8 +22,8 @@ fn fault_text(number: u8, place: usize, rest: &[u8]) -> Front
 {
     let mut text = Front::empty();
     text.put_all(rest);
-    put_number(&mut text, place as u64);
-    put_number(&mut text, number as u64);
+    text.put_number(place as u64);
+    text.put_number(u64::from(number));
     text.put_all(b"plan,");
     text
 }
@@ -35,22 +33,21 @@ impl Table {
     pub fn push_header(self, out: &mut Vec<u8>) -> Result<(), AllocError>
         ensures { Appended out.old (table_header self) result out.new }
     {
-        match self {
-            Table::Calls => add(out, b"call,result,running,waiting,ceiling,mark\r\n"),
-            Table::Sheet => add(
-                out,
-                b"low,high,resource,call,result,running,waiting,ceiling\r\n",
-            ),
-        }
+        let header: &[u8] = match self {
+            Table::Calls => b"call,result,running,waiting,ceiling,mark\r\n",
+            Table::Sheet => b"low,high,resource,call,result,running,waiting,ceiling\r\n",
+        };
+        out.extend_from_slice(header)
     }
 
     // Adds the line of a refused plan to the output, or nothing: the number of the fault, and its place in the text.
     pub fn push_fault(self, out: &mut Vec<u8>, number: u8, place: usize) -> Result<(), AllocError>
         ensures { Appended out.old (table_fault self number place) result out.new }
     {
-        match self {
-            Table::Calls => fault_text(number, place, b",,\r\n").add_to(out),
-            Table::Sheet => fault_text(number, place, b",,,,\r\n").add_to(out),
-        }
+        let rest: &[u8] = match self {
+            Table::Calls => b",,\r\n",
+            Table::Sheet => b",,,,\r\n",
+        };
+        fault_text(number, place, rest).add_to(out)
     }
 }

@@ -1,11 +1,10 @@
 // What is put before a text: bytes, and the digits of numbers.
 ghost use Rattle.std.specs.Prelude.{◌≡◌, ◌+◌, ◌<◌, ◌≤◌, [], ◌∷◌, ◌++◌, length, decimal};
 ghost use Rattle.std.specs.Char.{digit_char};
-ghost use Rattle.texts.specs.Fronts.{text_of, hex};
+ghost use Rattle.texts.specs.Fronts.{text_of, Puts, hex};
 ghost use Rattle.texts.specs.Outputs.{Appended};
 
 use crate::fronts::Front;
-use crate::outputs::add;
 use itoa::write_digits;
 use std::alloc::AllocError;
 
@@ -14,7 +13,7 @@ fn hex_digit(d: u8) -> u8
     requires { d < 16 }
     ensures { result ≡ digit_char d }
 {
-    b"0123456789abcdef"[d as usize]
+    b"0123456789abcdef"[usize::from(d)]
 }
 
 impl Front {
@@ -32,19 +31,17 @@ impl Front {
     // Puts one byte before the text.
     pub(crate) fn put(&mut self, b: u8)
         requires { 1 ≤ self.old.start }
-        ensures text { text_of self.new ≡ b ∷ text_of self.old }
-        ensures room { self.old.start ≡ self.new.start + 1 }
+        ensures { Puts 1 (λ text. b ∷ text) self.old self.new }
     {
         self.start -= 1;
         self.bytes[self.start] = b;
     }
 
-    // Puts bytes before the text.
+    // Puts bytes before the text: inline, since most texts are literals.
     #[inline(always)]
     pub(crate) fn put_all(&mut self, bytes: &[u8])
         requires { length bytes.now ≤ self.old.start }
-        ensures text { text_of self.new ≡ bytes.now ++ text_of self.old }
-        ensures room { self.old.start ≡ self.new.start + length bytes.now }
+        ensures { Puts (length bytes.now) (λ text. bytes.now ++ text) self.old self.new }
     {
         let end = self.start;
         self.start -= bytes.len();
@@ -52,10 +49,10 @@ impl Front {
     }
 
     // Puts the decimal digits of n before the text.
+    #[tactic(auto, using(crate::proofs::Fronted::length_decimal))]
     pub(crate) fn put_decimal(&mut self, n: u64)
         requires { 20 ≤ self.old.start }
-        ensures text { text_of self.new ≡ decimal n ++ text_of self.old }
-        ensures room { self.old.start ≤ self.new.start + 20 }
+        ensures { Puts 20 (λ text. decimal n ++ text) self.old self.new }
     {
         self.start = write_digits(n, &mut self.bytes, self.start);
     }
@@ -63,24 +60,19 @@ impl Front {
     // Puts the last `count` hexadecimal digits of v before the text.
     pub(crate) fn put_digits(&mut self, v: u64, count: u8)
         requires { count ≤ self.old.start }
-        ensures text { text_of self.new ≡ hex count v ++ text_of self.old }
-        ensures room { self.old.start ≡ self.new.start + count }
+        ensures { Puts count (λ text. hex count v ++ text) self.old self.new }
     {
         let mut left = v;
-        let mut at = self.start;
         for _place in 0..count {
-            at -= 1;
-            self.bytes[at] = hex_digit((left % 16) as u8);
+            self.put(hex_digit((left % 16) as u8));
             left /= 16;
         }
-        self.start = at;
     }
 
     // Puts the 16 hexadecimal digits of v before the text.
     pub(crate) fn put_hex(&mut self, v: u64)
         requires { 16 ≤ self.old.start }
-        ensures text { text_of self.new ≡ hex 16 v ++ text_of self.old }
-        ensures room { self.old.start ≡ self.new.start + 16 }
+        ensures { Puts 16 (λ text. hex 16 v ++ text) self.old self.new }
     {
         self.put_digits(v, 16);
     }
@@ -89,6 +81,6 @@ impl Front {
     pub(crate) fn add_to(&self, out: &mut Vec<u8>) -> Result<(), AllocError>
         ensures { Appended out.old (text_of self.now) result out.new }
     {
-        add(out, &self.bytes[self.start..])
+        out.extend_from_slice(&self.bytes[self.start..])
     }
 }
