@@ -83,12 +83,23 @@ fn attribute(text: &[u8], pos: usize) -> Result<Step, GrammarFault>
     if fits(text, Slot::Mark(Mark::Close), first) {
         return Ok(Step::new(Item::Closes, State::Closed, first.end));
     }
-    let Some(kind @ (Kind::Resource | Kind::Event)) = heading_of(text, first) else {
-        return Err(GrammarFault::misplaced(first.place));
-    };
+    let kind = heading_of(text, first)
+        .filter(|kind| *kind != Kind::Task)
+        .ok_or(GrammarFault::misplaced(first.place))?;
     let after = expect(text, first.end, Slot::Mark(Mark::Equals))?;
     let name = name(text, after)?;
     Ok(Step::new(Item::Refers(kind, name), State::Referred, name.end))
+}
+
+// Reads a number of a task, as this item.
+fn counted(
+    text: &[u8],
+    pos: usize,
+    item: impl FnOnce(u32, Token) -> Item,
+    state: State,
+) -> Result<Step, GrammarFault> {
+    let (value, token) = numeral(text, pos)?;
+    Ok(Step::new(item(value, token), state, token.end))
 }
 
 // Reads on from a state up to the next token that is judged.
