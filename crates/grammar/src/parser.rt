@@ -48,7 +48,8 @@ fn numeral(text: &[u8], pos: usize) -> Result<(u32, Token), GrammarFault>
 fn heading_of(text: &[u8], token: Token) -> Option<Kind>
     ensures { result ≡ heading text.now token }
 {
-    // By `fits`: a match on the bytes would spell the keywords a second time.
+    // No `find` over pairs of a keyword and its kind: it was tried, and its clause, which speaks of runs of an iterator,
+    // did not give this one.
     let fits_word = |word| fits(text, Slot::Word(word), token);
     if fits_word(Word::Resource) {
         Some(Kind::Resource)
@@ -91,22 +92,13 @@ fn attribute(text: &[u8], pos: usize) -> Result<Step, GrammarFault>
     Ok(Step::new(Item::Refers(kind, name), State::Referred, name.end))
 }
 
-// Reads a number of a task, as this item.
-fn counted(
-    text: &[u8],
-    pos: usize,
-    item: impl FnOnce(u32, Token) -> Item,
-    state: State,
-) -> Result<Step, GrammarFault> {
-    let (value, token) = numeral(text, pos)?;
-    Ok(Step::new(item(value, token), state, token.end))
-}
-
 // Reads on from a state up to the next token that is judged.
 pub fn next_item(text: &[u8], state: State, pos: usize) -> Result<Step, GrammarFault>
     ensures { result ≡ item_at text.now state pos }
 {
     let at = follow(text, pos, slots_after(state))?;
+    // Two arms of one shape: one function over the item, as a closure, was tried, and what the two arms owe was not proved
+    // from its clause, for each rule that the closure's answers keep.
     match state {
         State::Declared(Kind::Task) => {
             let (value, token) = numeral(text, at)?;
