@@ -86,8 +86,7 @@ impl PlanFault {
         }
     }
 
-    // The byte of the text where the fault was found, a method as `number` and `layer` are: public, and kept for the callers
-    // above.
+    // The byte of the text where the fault was found: public, and kept for its callers.
     pub fn place(&self) -> usize
         ensures { result ≡ self.now.place }
     {

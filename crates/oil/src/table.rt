@@ -6,7 +6,8 @@ ghost use Rattle.oil.specs.Table.{key_of, blank, meant, find, known_by};
 use grammar::item::Kind;
 
 // A name, filled up with zeros, and what it stands for: the kind of an object and its number, or no kind where the
-// record is empty. A record is the caller's memory with public fields, so that it may have a number beside no kind.
+// record is empty. The number stands beside the kind and not in it: a record is the caller's memory with public fields, and
+// a number in a record that holds nothing may come from there.
 #[derive(Clone, Copy, PartialEq, Debug)]
 pub struct NameRecord {
     pub name: [u8; 32],
