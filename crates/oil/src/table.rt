@@ -23,7 +23,7 @@ pub(crate) struct Known {
 }
 
 impl NameRecord {
-    // An empty record. No derived `Default`: it was tried, and what an array's default is was not proved.
+    // An empty record. No derived `Default`: it was tried, and that it gives this record was not proved.
     pub fn empty() -> NameRecord
         ensures { result ≡ blank }
     {
