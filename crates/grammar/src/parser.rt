@@ -48,7 +48,8 @@ fn numeral(text: &[u8], pos: usize) -> Result<(u32, Token), GrammarFault>
 fn heading_of(text: &[u8], token: Token) -> Option<Kind>
     ensures { result ≡ heading text.now token }
 {
-    // By `fits`: a match on the bytes would spell the keywords a second time.
+    // No `find` over pairs of a keyword and its kind: it was tried, and its clause, which speaks of runs of an iterator,
+    // did not give this one.
     let fits_word = |word| fits(text, Slot::Word(word), token);
     if fits_word(Word::Resource) {
         Some(Kind::Resource)
@@ -83,9 +84,9 @@ fn attribute(text: &[u8], pos: usize) -> Result<Step, GrammarFault>
     if fits(text, Slot::Mark(Mark::Close), first) {
         return Ok(Step::new(Item::Closes, State::Closed, first.end));
     }
-    let Some(kind @ (Kind::Resource | Kind::Event)) = heading_of(text, first) else {
-        return Err(GrammarFault::misplaced(first.place));
-    };
+    let kind = heading_of(text, first)
+        .filter(|kind| *kind != Kind::Task)
+        .ok_or(GrammarFault::misplaced(first.place))?;
     let after = expect(text, first.end, Slot::Mark(Mark::Equals))?;
     let name = name(text, after)?;
     Ok(Step::new(Item::Refers(kind, name), State::Referred, name.end))
@@ -96,6 +97,8 @@ pub fn next_item(text: &[u8], state: State, pos: usize) -> Result<Step, GrammarF
     ensures { result ≡ item_at text.now state pos }
 {
     let at = follow(text, pos, slots_after(state))?;
+    // Two arms of one shape: one function over the item, as a closure, was tried, and what the two arms owe was not proved
+    // from its clause, for each rule that the closure's answers keep.
     match state {
         State::Declared(Kind::Task) => {
             let (value, token) = numeral(text, at)?;

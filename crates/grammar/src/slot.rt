@@ -3,7 +3,7 @@ ghost use Rattle.std.specs.Prelude.{◌≡◌};
 ghost use Rattle.grammar.specs.Slots.{admits, expected, followed};
 
 use crate::fault::GrammarFault;
-use crate::word::{Word, spelling};
+use crate::word::Word;
 use letters::lexer::next;
 use letters::token::{Mark, Token, What, bytes_of};
 
@@ -21,7 +21,7 @@ pub(crate) fn fits(text: &[u8], slot: Slot, token: Token) -> bool
     ensures { result ≡ admits text.now slot token }
 {
     match (slot, token.what) {
-        (Slot::Word(word), What::Name) => bytes_of(text, token) == spelling(word),
+        (Slot::Word(word), What::Name) => bytes_of(text, token) == word.spelling(),
         (Slot::Mark(mark), What::Mark(found)) => mark == found,
         (Slot::AnyName, What::Name) => true,
         (Slot::Version, What::Quoted) => bytes_of(text, token) == b"\"2.5\"".as_slice(),

@@ -18,7 +18,7 @@ const START: [Slot; 7] = [
     Slot::Mark(Mark::Open),
 ];
 
-// { RESOURCEPROPERTY = STANDARD; };
+// { RESOURCEPROPERTY = STANDARD; }; written out, as the next: a constant's value calls no function, not even a const one.
 const RESOURCE: [Slot; 7] = [
     Slot::Mark(Mark::Open),
     Slot::Word(Word::ResourceProperty),

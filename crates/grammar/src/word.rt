@@ -21,25 +21,27 @@ pub enum Word {
     False,
 }
 
-// How a keyword is spelled.
-pub(crate) fn spelling(word: Word) -> &'static [u8]
-    ensures { result.now ≡ spelt word }
-{
-    match word {
-        Word::OilVersion => b"OIL_VERSION",
-        Word::Cpu => b"CPU",
-        Word::Resource => b"RESOURCE",
-        Word::Event => b"EVENT",
-        Word::Task => b"TASK",
-        Word::ResourceProperty => b"RESOURCEPROPERTY",
-        Word::Standard => b"STANDARD",
-        Word::Mask => b"MASK",
-        Word::Auto => b"AUTO",
-        Word::Priority => b"PRIORITY",
-        Word::Schedule => b"SCHEDULE",
-        Word::Full => b"FULL",
-        Word::Activation => b"ACTIVATION",
-        Word::Autostart => b"AUTOSTART",
-        Word::False => b"FALSE",
+impl Word {
+    // How a keyword is spelled.
+    pub(crate) fn spelling(self) -> &'static [u8]
+        ensures { result.now ≡ spelt self }
+    {
+        match self {
+            Word::OilVersion => b"OIL_VERSION",
+            Word::Cpu => b"CPU",
+            Word::Resource => b"RESOURCE",
+            Word::Event => b"EVENT",
+            Word::Task => b"TASK",
+            Word::ResourceProperty => b"RESOURCEPROPERTY",
+            Word::Standard => b"STANDARD",
+            Word::Mask => b"MASK",
+            Word::Auto => b"AUTO",
+            Word::Priority => b"PRIORITY",
+            Word::Schedule => b"SCHEDULE",
+            Word::Full => b"FULL",
+            Word::Activation => b"ACTIVATION",
+            Word::Autostart => b"AUTOSTART",
+            Word::False => b"FALSE",
+        }
     }
 }

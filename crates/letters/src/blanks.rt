@@ -20,10 +20,8 @@ fn skips(comment: bool, byte: u8, after: &[u8]) -> Option<bool>
         Some(byte != b'\n')
     } else if byte == b'/' && begins(after, b'/') {
         Some(true)
-    } else if is_blank(byte) {
-        Some(false)
     } else {
-        None
+        is_blank(byte).then_some(false)
     }
 }
 

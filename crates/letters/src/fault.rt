@@ -46,13 +46,16 @@ pub struct LettersFault {
 }
 
 impl LettersFault {
+    pub(crate) fn new(cause: LettersCause, place: usize) -> LettersFault
+        ensures { result ≡ fault cause place }
+    {
+        LettersFault { cause, place }
+    }
+
     // No lawful token begins at the place.
     pub(crate) fn no_token(place: usize) -> LettersFault
         ensures { result ≡ fault causes.NoToken place }
     {
-        LettersFault {
-            cause: LettersCause::NoToken,
-            place,
-        }
+        LettersFault::new(LettersCause::NoToken, place)
     }
 }

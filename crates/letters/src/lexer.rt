@@ -6,7 +6,7 @@ use crate::blanks::blanks_len;
 use crate::bytes::starts_name;
 use crate::fault::{LettersCause, LettersFault};
 use crate::limits::LONGEST_TEXT;
-use crate::names::name;
+use crate::names::{name, name_len};
 use crate::numbers::number;
 use crate::slices::rest_from;
 use crate::strings::string;
@@ -17,10 +17,7 @@ pub fn measure(text: &[u8]) -> Result<(), LettersFault>
     ensures { result ≡ measured text.now }
 {
     if text.len() > LONGEST_TEXT {
-        return Err(LettersFault {
-            cause: LettersCause::TooLong,
-            place: LONGEST_TEXT,
-        });
+        return Err(LettersFault::new(LettersCause::TooLong, LONGEST_TEXT));
     }
     Ok(())
 }
@@ -32,7 +29,7 @@ fn head(text: &[u8], place: usize) -> Result<Token, LettersFault>
 {
     match text {
         [] => Ok(Token::new(What::End, place, 0)),
-        [first, after @ ..] if starts_name(*first) => name(place, after),
+        [first, after @ ..] if starts_name(*first) => name(place, 1 + name_len(after)),
         [first, after @ ..] if first.is_ascii_digit() => {
             let (value, count) = number(*first, after).ok_or(LettersFault::no_token(place))?;
             Ok(Token::new(What::Number(value), place, count))

@@ -10,19 +10,18 @@ use crate::limits::LONGEST_WORD;
 use crate::token::{Token, What};
 
 // How many bytes the text begins with that go on a name.
-fn name_len(text: &[u8]) -> usize
+pub(crate) fn name_len(text: &[u8]) -> usize
     ensures count { result ≡ prefix_len name_byte text.now }
     ensures bound { result ≤ length text.now }
 {
     text.iter().take_while(|b| goes_on_name(**b)).count()
 }
 
-// A name whose first byte stands at `place`, before `text`.
-pub(crate) fn name(place: usize, text: &[u8]) -> Result<Token, LettersFault>
-    requires { place + 1 + length text.now < 2 ^ 64 }
-    ensures { result ≡ name_at place (1 + prefix_len name_byte text.now) }
+// A name of `count` bytes from `place` on.
+pub(crate) fn name(place: usize, count: usize) -> Result<Token, LettersFault>
+    requires { place + count < 2 ^ 64 }
+    ensures { result ≡ name_at place count }
 {
-    let count = 1 + name_len(text);
     if count > LONGEST_WORD {
         return Err(LettersFault::no_token(place));
     }

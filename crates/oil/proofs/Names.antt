@@ -1,6 +1,6 @@
 -- Names as the table holds them.
 use Rattle.std.proofs.Common.{◌≡◌, ℕ, zero, suc, ◌<◌, ◌≤◌, false, cond, eqb, List, [], ◌∷◌, ◌++◌, length, take, drop, get_or, set, replicate, Some, None, sym, refl, ap, ◌∙◌, ⊎_elim, arith}
-use Rattle.std.proofs.lemmas.Bool.{cases_Bool, cond-true, cond-false, ne_eqb, true≢false}
+use Rattle.std.proofs.lemmas.Bool.{cases_Bool, cond-true, cond-false, ne_eqb, true≢false, false_from_ne_true}
 use Rattle.std.proofs.lemmas.Slice.Eq.{bytes_eq-Decides}
 use Rattle.std.specs.Str.{bytes_eq}
 use Rattle.std.proofs.lemmas.List.{take-replicate}
@@ -44,7 +44,7 @@ key_some n h e =
     omega arith
 
 pub same_no : (a b : List ℕ) → (a ≡ b → ⊥) → bytes_eq a b ≡ false
-same_no a b h = ⊎_elim (λ y. absurd (h ((bytes_eq-Decides a b).0 y))) (λ n. n) (cases_Bool (bytes_eq a b))
+same_no a b h = false_from_ne_true (bytes_eq a b) (λ y. h ((bytes_eq-Decides a b).0 y))
 
 -- a record written where the table is blank is found by its name, and by no other
 pub find_set : (names : List NameRecord) (j : ℕ) (r : NameRecord) (k : List ℕ) → j < length names → get_or names j blank ≡ blank → find names r.name ≡ None → (k ≡ no_key → ⊥) → find (set names j r) k ≡ cond (bytes_eq r.name k) (Some r) (find names k)

@@ -42,14 +42,14 @@ find_ok d (r ∷ rs) key h =
     cond_both (bytes_eq r.name key) (Some r) (find rs key) (λ o. KnownOk d (known_by o)) (λ _. meant_ok d r.holds r.number h.0) (λ _. find_ok d rs key h.1)
 
 -- what is found has a number that is declared
-found_ok : (d : Draft) (names : List NameRecord) (n : List ℕ) (x : Known) → AllOk d names → Some x ≡ looked names n → KindOk d x.kind x.number
-found_ok d names n x h e = subst (KnownOk d) (sym e) (find_ok d names (key_of n) h)
+found_ok : (d : Draft) (names : List NameRecord) (key : List ℕ) (x : Known) → AllOk d names → Some x ≡ known_by (find names key) → KindOk d x.kind x.number
+found_ok d names key x h e = subst (KnownOk d) (sym e) (find_ok d names key h)
 
-pub resource_low : (d : Draft) (names : List NameRecord) (n : List ℕ) (x : Known) → AllOk d names → Some x ≡ looked names n → x.kind ≡ kind.Resource → x.number < d.resources
-resource_low d names n x h e is = subst (λ k. KindOk d k x.number) is (found_ok d names n x h e)
+pub resource_low : (d : Draft) (names : List NameRecord) (key : List ℕ) (x : Known) → AllOk d names → Some x ≡ known_by (find names key) → x.kind ≡ kind.Resource → x.number < d.resources
+resource_low d names key x h e is = subst (λ k. KindOk d k x.number) is (found_ok d names key x h e)
 
-pub event_low : (d : Draft) (names : List NameRecord) (n : List ℕ) (x : Known) → AllOk d names → Some x ≡ looked names n → x.kind ≡ kind.Event → x.number < d.events
-event_low d names n x h e is = subst (λ k. KindOk d k x.number) is (found_ok d names n x h e)
+pub event_low : (d : Draft) (names : List NameRecord) (key : List ℕ) (x : Known) → AllOk d names → Some x ≡ known_by (find names key) → x.kind ≡ kind.Event → x.number < d.events
+event_low d names key x h e is = subst (λ k. KindOk d k x.number) is (found_ok d names key x h e)
 
 number_more : (d e : Draft) (k : Option Kind) (n : ℕ) → d.resources ≤ e.resources → d.events ≤ e.events → NumberOk d k n → NumberOk e k n
 number_more d e None n r v g = tt

@@ -17,6 +17,10 @@ use Rattle.oil.specs.Table.{key_of, looked}
 use Rattle.oil.specs.Draft.{Drafted, empty_draft, next_number, used}
 use Rattle.oil.specs.Judging.{introduced, advanced, resume}
 
+-- The record of a new object under a key.
+abbrev pub record_under : Draft → Kind → List ℕ → NameRecord
+record_under d k key = record { name = key; holds = Some k; number = next_number d k }
+
 -- The record of a new object.
 abbrev pub new_record : Draft → Kind → List ℕ → NameRecord
 new_record d k name = record { name = key_of name; holds = Some k; number = next_number d k }

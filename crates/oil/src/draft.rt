@@ -98,7 +98,7 @@ impl Draft {
     }
 
     // The number of the next object of this kind; a task gets its number from its PRIORITY. It is 0 for a task, and no
-    // Option, since a record of the table has a number whatever it holds.
+    // Option, since it goes into a record of the table, which has a public number whatever it holds.
     pub(crate) fn next_number(&self, kind: Kind) -> u8
         ensures { result ≡ next self.now kind }
     {
@@ -134,10 +134,11 @@ impl Draft {
     pub(crate) fn prioritize(self, value: u32, place: usize) -> Result<Draft, PlanFault>
         ensures { result ≡ prioritized self value place }
     {
-        if value >= u32::from(TASKS) || contains(self.declared, value as u8) {
-            return Err(PlanFault::new(PlanCause::WrongNumber, place));
-        }
-        let current = alone(value as u8);
+        let task = u8::try_from(value)
+            .ok()
+            .filter(|task| *task < TASKS && !contains(self.declared, *task))
+            .ok_or(PlanFault::new(PlanCause::WrongNumber, place))?;
+        let current = alone(task);
         let declared = self.declared | current;
         Ok(Draft {
             declared,
@@ -157,7 +158,8 @@ impl Draft {
         }
     }
 
-    // The draft with the task at hand among the users of a resource.
+    // The draft with the task at hand among the users of a resource. What this and `register` share is `add`: one method
+    // for both would have to be told which of the two rows to read and to write.
     pub(crate) fn add_user(self, resource: u8) -> Draft
         requires { resource < self.resources }
         ensures { result ≡ with_users self (added self.users resource self.current) }

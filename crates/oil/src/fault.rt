@@ -86,14 +86,14 @@ impl PlanFault {
         }
     }
 
-    // The byte of the text where the fault was found, beside the number and the layer for callers that print the three.
+    // The byte of the text where the fault was found: public, and kept for its callers.
     pub fn place(&self) -> usize
         ensures { result ≡ self.now.place }
     {
         self.place
     }
 
-    // What was wrong, in a few words, as a text that stays: callers print it as bytes with no formatter.
+    // What was wrong, in a few words, as a text that stays. It is public, and `Display` writes it.
     pub fn explain(&self) -> &'static str
         ensures { result.now ≡ explanation self.now.cause }
     {

@@ -1,9 +1,10 @@
 // What an item does to the draft and to the table of names. The table is the caller's memory: a struct of both could
 // only borrow it, and each clause would name its two parts as it names them now.
 ghost use Rattle.std.specs.Prelude.{◌≡◌, ◌≤◌, length};
-ghost use Rattle.oil.specs.Table.{looked};
-ghost use Rattle.oil.specs.Judging.{introduced, referred, judged};
-ghost use Rattle.oil.specs.Records.{AllOk, entered, new_record, noted, ItemIn, Ready};
+ghost use Rattle.oil.specs.Table.{looked, find, known_by};
+ghost use Rattle.oil.specs.Draft.{grown};
+ghost use Rattle.oil.specs.Judging.{unless_known, referred_by, judged};
+ghost use Rattle.oil.specs.Records.{AllOk, entered, record_under, noted, ItemIn, Ready};
 
 use crate::draft::Draft;
 use crate::fault::{PlanCause, PlanFault};
@@ -11,25 +12,24 @@ use crate::table::{NameRecord, key, look_up};
 use grammar::item::{Item, Kind};
 use letters::token::bytes_of;
 
-// Declares an object, and enters its name.
+// Declares an object, and enters the key of its name.
 fn declare(
     names: &mut [NameRecord],
     draft: Draft,
     kind: Kind,
-    name: &[u8],
+    name: [u8; 32],
     place: usize,
 ) -> Result<Draft, PlanFault>
-    requires short { length name.now ≤ 32 }
     requires room { 128 ≤ length names.old }
-    ensures value { result ≡ introduced (looked names.old) draft kind name.now place }
-    ensures after { names.new ≡ entered names.old draft (new_record draft kind name.now) result }
+    ensures value { result ≡ unless_known (known_by (find names.old name)) place (grown draft kind place) }
+    ensures after { names.new ≡ entered names.old draft (record_under draft kind name) result }
 {
     if look_up(names, name).is_some() {
         return Err(PlanFault::new(PlanCause::NameTaken, place));
     }
     let after = draft.grow(kind, place)?;
     names[draft.used()] = NameRecord {
-        name: key(name),
+        name,
         holds: Some(kind),
         number: draft.next_number(kind),
     };
@@ -41,12 +41,11 @@ fn refer(
     names: &[NameRecord],
     draft: Draft,
     kind: Kind,
-    name: &[u8],
+    name: [u8; 32],
     place: usize,
 ) -> Result<Draft, PlanFault>
-    requires short { length name.now ≤ 32 }
     requires sound { AllOk draft names.now }
-    ensures value { result ≡ referred (looked names.now) draft kind name.now place }
+    ensures value { result ≡ referred_by draft kind (known_by (find names.now name)) place }
 {
     let fault = PlanFault::new(PlanCause::NotKnown, place);
     let Some(record) = look_up(names, name) else {
@@ -72,16 +71,16 @@ pub(crate) fn judge(
     ensures after { names.new ≡ noted text.now names.old draft item }
 {
     match item {
-        Item::Declares(kind, token) => declare(
-            names,
-            draft,
-            kind,
-            bytes_of(text, token),
-            token.place,
-        ),
+        Item::Declares(kind, token) => {
+            let name = key(bytes_of(text, token));
+            declare(names, draft, kind, name, token.place)
+        }
         Item::Priority(value, token) => draft.prioritize(value, token.place),
         Item::Activation(value, token) => draft.activate(value, token.place),
-        Item::Refers(kind, token) => refer(names, draft, kind, bytes_of(text, token), token.place),
+        Item::Refers(kind, token) => {
+            let name = key(bytes_of(text, token));
+            refer(names, draft, kind, name, token.place)
+        }
         Item::Closes => Ok(draft),
         Item::End => draft.finish(text.len()),
     }

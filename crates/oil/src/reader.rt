@@ -31,7 +31,7 @@ fn gather(text: &[u8], names: &mut [NameRecord]) -> Result<Draft, PlanFault>
     loop {
         let step = next_item(text, state, pos)?;
         draft = judge(text, names, draft, step.item)?;
-        if let Item::End = step.item {
+        if step.item == Item::End {
             return Ok(draft);
         }
         state = step.state;
@@ -39,7 +39,8 @@ fn gather(text: &[u8], names: &mut [NameRecord]) -> Result<Draft, PlanFault>
     }
 }
 
-// Reads a text into a plan, with a table of at least 128 records for the names. What it promises of every text:
+// Reads a text into a plan, with a table of at least 128 records for the names; both are the caller's memory.
+// What it promises of every text:
 // value: the answer is what the definitions give, item by item from the left;
 // table: a table that is large enough is left empty, any other as it was;
 // plan: an accepted text gives its plan, and a refusal leaves the plan as it was;

@@ -1,12 +1,13 @@
 // The table of the names that are declared, in the caller's memory.
 ghost use Rattle.std.specs.Prelude.{◌≡◌, ◌≤◌, length, replicate};
 ghost use Rattle.std.specs.Str.{bytes_eq};
-ghost use Rattle.oil.specs.Table.{key_of, blank, meant, looked};
+ghost use Rattle.oil.specs.Table.{key_of, blank, meant, find, known_by};
 
 use grammar::item::Kind;
 
 // A name, filled up with zeros, and what it stands for: the kind of an object and its number, or no kind where the
-// record is empty.
+// record is empty. The number stands beside the kind and not in it: a record is the caller's memory with public fields, and
+// a number in a record that holds nothing may come from there.
 #[derive(Clone, Copy, PartialEq, Debug)]
 pub struct NameRecord {
     pub name: [u8; 32],
@@ -15,14 +16,14 @@ pub struct NameRecord {
 }
 
 // What a name stands for: an object of this kind, and its number if it is a resource or an event.
-#[derive(Clone, Copy)]
+#[derive(Clone, Copy, PartialEq, Debug)]
 pub(crate) struct Known {
     pub kind: Kind,
     pub number: u8,
 }
 
 impl NameRecord {
-    // An empty record.
+    // An empty record. No derived `Default`: it was tried, and that it gives this record was not proved.
     pub fn empty() -> NameRecord
         ensures { result ≡ blank }
     {
@@ -54,14 +55,12 @@ pub(crate) fn key(name: &[u8]) -> [u8; 32]
     all
 }
 
-// What a name stands for, if it is declared. A function of its own that goes over copies of the records: LLVM then makes
-// the comparison of two names part of the loop, and leaves it a call otherwise.
+// What the name with this key stands for, if it is declared. A function of its own that goes over copies of the records:
+// LLVM then makes the comparison of two names part of the loop, and leaves it a call otherwise.
 #[inline(never)]
-pub(crate) fn look_up(names: &[NameRecord], name: &[u8]) -> Option<Known>
-    requires { length name.now ≤ 32 }
-    ensures { result ≡ looked names.now name.now }
+pub(crate) fn look_up(names: &[NameRecord], key: [u8; 32]) -> Option<Known>
+    ensures { result ≡ known_by (find names.now key) }
 {
-    let key = key(name);
     names
         .iter()
         .copied()

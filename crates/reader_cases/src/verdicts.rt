@@ -6,7 +6,8 @@ use oil::table::NameRecord;
 use plan::record::Plan;
 use std::test::Fail;
 
-// Reads a text with a new table and a new plan.
+// Reads a text with a new table and a new plan. The programs have these lines too, in a crate that lies above: these
+// cases stand on the reader alone.
 pub(crate) fn verdict(text: &str) -> Result<Plan, PlanFault> {
     let mut names = [NameRecord::empty(); 128];
     let mut plan = Plan::unfilled();
@@ -133,9 +134,9 @@ fn prefixes(rt: HostRuntime) -> Result<(), Fail> {
     for n in 0..end {
         let mut names = [NameRecord::empty(); 128];
         let mut plan = Plan::unfilled();
-        let Err(fault) = read(&text[0..n], &mut names, &mut plan) else {
-            return Err(Fail::new("accepted"));
-        };
+        let fault = read(&text[0..n], &mut names, &mut plan)
+            .err()
+            .ok_or_else(|| Fail::new("accepted"))?;
         assert!(rt; matches!(fault.number(), 2..=4));
         assert!(rt; fault.place() <= n);
         assert_eq!(rt; plan.declared, 0);

@@ -33,21 +33,21 @@ pub returns-in_err-draft-clause-after : goal.returns-in_err-draft-clause-after
 returns-in_err-draft-clause-after c =
     (going_refused c.loop-step.invariant c.in_ok-step.step c.in_ok-step.ensures c.judge.new.names c.in_err-draft.ensures.after c.in_err-draft.field-0.0 c.in_err-draft.ensures.value).1
 
-pub returns-in-End-clause-value : goal.returns-in-End-clause-value
-returns-in-End-clause-value c =
-    (going_end c.loop-step.invariant c.in_ok-step.step c.in_ok-step.ensures c.judge.new.names c.in_ok-draft.ensures.after c.in_ok-draft.draft c.in_ok-draft.ensures.value c.in-End.is).0
+pub returns-then-eq-clause-value : goal.returns-then-eq-clause-value
+returns-then-eq-clause-value c =
+    (going_end c.loop-step.invariant c.in_ok-step.step c.in_ok-step.ensures c.judge.new.names c.in_ok-draft.ensures.after c.in_ok-draft.draft c.in_ok-draft.ensures.value (search rules)).0
 
-pub returns-in-End-clause-after : goal.returns-in-End-clause-after
-returns-in-End-clause-after c =
-    (going_end c.loop-step.invariant c.in_ok-step.step c.in_ok-step.ensures c.judge.new.names c.in_ok-draft.ensures.after c.in_ok-draft.draft c.in_ok-draft.ensures.value c.in-End.is).1
+pub returns-then-eq-clause-after : goal.returns-then-eq-clause-after
+returns-then-eq-clause-after c =
+    (going_end c.loop-step.invariant c.in_ok-step.step c.in_ok-step.ensures c.judge.new.names c.in_ok-draft.ensures.after c.in_ok-draft.draft c.in_ok-draft.ensures.value (search rules)).1
 
 pub loop-step-smaller : goal.loop-step-smaller
 loop-step-smaller c =
-    let on = going_on c.loop-step.invariant c.in_ok-step.step c.in_ok-step.ensures c.judge.new.names c.in_ok-draft.ensures.after c.in_ok-draft.draft c.in_ok-draft.ensures.value c.in_default.not-End in
+    let on = going_on c.loop-step.invariant c.in_ok-step.step c.in_ok-step.ensures c.judge.new.names c.in_ok-draft.ensures.after c.in_ok-draft.draft c.in_ok-draft.ensures.value (search rules) in
     let further = on.1 in
     let within = on.2 in
     omega arith
 
 pub loop-step-preserved : goal.loop-step-preserved
 loop-step-preserved c =
-    (going_on c.loop-step.invariant c.in_ok-step.step c.in_ok-step.ensures c.judge.new.names c.in_ok-draft.ensures.after c.in_ok-draft.draft c.in_ok-draft.ensures.value c.in_default.not-End).0
+    (going_on c.loop-step.invariant c.in_ok-step.step c.in_ok-step.ensures c.judge.new.names c.in_ok-draft.ensures.after c.in_ok-draft.draft c.in_ok-draft.ensures.value (search rules)).0

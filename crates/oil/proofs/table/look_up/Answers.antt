@@ -9,5 +9,5 @@ use Rattle.oil.proofs.table.look_up.Goals as goal
 
 pub returns : goal.returns
 returns c =
-    let found = find_from_yields_List (λ (r : NameRecord). bytes_eq r.name c.key-key.result) _ _ c.find.result c.find.ensures.ran (YieldsList-from_copied (YieldsList-from_slice c.args.names.now cc)) (λ x b q k. search (rules, tests)) in
+    let found = find_from_yields_List (λ (r : NameRecord). bytes_eq r.name c.args.key) _ _ c.find.result c.find.ensures.ran (YieldsList-from_copied (YieldsList-from_slice c.args.names.now cc)) (λ x b q k. search (rules, tests)) in
     search rules
