@@ -1,11 +1,16 @@
 -- Laws of a text that grows at its front.
-use Rattle.std.proofs.Common.{◌≡◌, ℕ, zero, suc, ◌+◌, ◌-◌, ◌/◌, ◌%◌, ◌^◌, ◌<◌, ◌≤◌, List, [], ◌∷◌, ◌++◌, length, decimal, sym, refl, ap, ◌∙◌, append_assoc, arith}
+use Rattle.std.proofs.Common.{◌≡◌, ℕ, zero, suc, ◌+◌, ◌-◌, ◌/◌, ◌%◌, ◌^◌, ◌<◌, ◌≤◌, List, [], ◌∷◌, ◌++◌, length, drop, set, decimal, sym, refl, ap, ◌∙◌, append_assoc, arith}
 use Rattle.std.specs.Char.{digit_char}
+use Rattle.std.proofs.lemmas.List.{drop-set}
 use Rattle.std.proofs.lemmas.Fmt.{length-decimal-le}
 use Rattle.texts.specs.Fronts.{hex}
 
 pub length_decimal : (n : ℕ) → n < 2 ^ 64 → length (decimal n) ≤ 20
 length_decimal n small = length-decimal-le 20 n (omega arith) (omega arith) (omega arith)
+
+-- A byte that is set right before what stands from a place on.
+pub set_before : (bs : List ℕ) (start b : ℕ) → 1 ≤ start → start ≤ length bs → drop (start - 1) (set bs (start - 1) b) ≡ b ∷ drop start bs
+set_before bs start b some within = drop-set bs (start - 1) b (omega arith) ∙ ap (λ i. b ∷ drop i bs) (let e : start - 1 + 1 ≡ start = omega arith in e)
 
 -- One turn of a loop that puts the digits of a number: f has the digits of what is left.
 pub digit_more : (before after text next whole : List ℕ) (x : ℕ) → before ≡ after ++ x ∷ [] → next ≡ x ∷ text → before ++ text ≡ whole → after ++ next ≡ whole

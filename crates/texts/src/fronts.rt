@@ -4,7 +4,8 @@ ghost use Rattle.std.specs.Prelude.{◌≤◌};
 
 pub mod puts;
 
-// The text is what stands from `start` on. An `ArrayVec` grows at its end, where hexadecimal digits come last first.
+// The text is what stands from `start` on. An `ArrayVec` written from its front was tried: the loop that takes hexadecimal
+// digits by shifts was not proved, and decimal digits went through a buffer of their own.
 #[derive(Drop)]
 pub struct Front {
     bytes: [u8; 128],
