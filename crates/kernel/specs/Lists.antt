@@ -1,6 +1,5 @@
 -- What the chain and the held list of a kernel keep, with the newest entry first. The structs cite this file.
 use Rattle.std.specs.Prelude.{◌≡◌, ℕ, ◌<◌, Bool, true, ◌&&◌, List, [], ◌∷◌, Some, Option}
-use Rattle.vectors.specs.Vectors.{in_vector}
 use Rattle.plan.specs.declared.record.Plan.{Plan}
 use Rattle.machine.specs.Schedules.{among, holder, system_ceiling_under}
 use Rattle.machine.specs.Refusals.{same}

@@ -12,7 +12,9 @@ use machine::{Reply, Word};
 use sets::waiting::WaitingSet;
 use vectors::{highest, without};
 
-// A waiting set, which holds the waiting tasks and nothing else does, and the core beside it.
+// A waiting set, which holds the waiting tasks and nothing else does, and the core beside it. Contracts say
+// `meaning R.room R.holds self.now` for the machine that it stands for: as a ghost member of a trait that would read
+// `⟦<Kernel<R> as Stands>⟧.machine self.now`, which is no plainer.
 #[derive(Drop)]
 pub struct Kernel<R: WaitingSet> {
     pub(crate) set: R,

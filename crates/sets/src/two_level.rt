@@ -72,7 +72,9 @@ impl WaitingSet for TwoLevelSet {
         };
         let left = switched_off(self.rows[row as usize], bit);
         self.rows[row as usize] = left;
-        if left == 0 {
+        // The name says when the bit of the group goes: where the row holds no other task.
+        let emptied = left == 0;
+        if emptied {
             self.group = switched_off(self.group, row);
         }
         true

@@ -1,6 +1,6 @@
-use Rattle.std.proofs.Common.{◌≡◌, ℕ, Bool, true, false, List, [], ◌∷◌, None, Some, Option, sym, refl, ap, ◌∙◌, rules}
+use Rattle.std.proofs.Common.{◌≡◌, ℕ, Bool, false, List, [], ◌∷◌, Some, refl, ◌∙◌, rules}
 use Rattle.std.specs.Option.{MatchOption}
-use Rattle.machine.specs.Schedules.{head, among}
+use Rattle.machine.specs.Schedules.{head}
 use Rattle.machine.specs.Refusals.{same, holds_some}
 use Rattle.machine.specs.Shapes.{Falling, Single, Nested}
 use Rattle.laws.proofs.Lists.{top}

@@ -1,4 +1,4 @@
-use Rattle.std.proofs.Common.{◌≡◌, List, [], ◌∷◌, ◌++◌, reverse, None, Some, Option, ap, ◌∙◌, subst, append-nil}
+use Rattle.std.proofs.Common.{◌≡◌, List, ◌++◌, reverse, None, Some, Option, ◌∙◌, subst, append-nil}
 use Rattle.std.specs.Option.{option_to_list}
 use Rattle.kernel.specs.declared.held_lock.HeldLock.{HeldLock}
 use Rattle.kernel.specs.Lists.{IsHeldList}
