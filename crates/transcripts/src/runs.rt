@@ -24,7 +24,8 @@ pub fn transcribe<R: WaitingSet + Drop>(
     ensures { Grown out (lines_of (meaning R.room R.holds kernel) input.now) result }
 {
     let mut rest = input;
-    // `cut_record` says how to go on; an iterator over the records would be a type with laws of its own for this one loop.
+    // `cut_record` says how to go on. Tried with `std::iter::from_fn` over it and `zip`: the proof did not close, since the
+    // check cannot state a loop over a closure that changes a borrowed slice.
     for count in 0..LIMIT {
         let Some((text, after)) = cut_record(rest) else {
             return Ok(out);
