@@ -10,7 +10,8 @@ pub(crate) fn number(digit: u8, text: &[u8]) -> Option<(u32, usize)>
     ensures value { result ≡ digits 1 (digit - 48) text.now }
     ensures bound { IfSome result (λ p. p.1 ≤ 1 + length text.now) }
 {
-    // A loop: it ends with none in the middle, and the count of the digits so far is what lets the next sum fit.
+    // A loop that counts, since it may end with none in the middle. The run measured first by `take_while` and then summed was
+    // tried: it is proved, and no shorter.
     let mut rest = text;
     let mut count = 1;
     let mut value = u32::from(digit - b'0');
