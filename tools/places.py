@@ -35,7 +35,7 @@ def functions(text):
         m = FUNCTION.match(lines[i])
         if m:
             indent, opens = m.group(1), i
-            while not (lines[opens].endswith(" {") or lines[opens] == indent + "{" or lines[opens].endswith(";")):
+            while not lines[opens].endswith((" {", "{}", ";")) and lines[opens] != indent + "{":
                 opens += 1
             ends = opens
             if lines[opens].endswith("{"):
