@@ -39,6 +39,7 @@ impl<R: WaitingSet> Kernel<R> {
         ensures after { (meaning R.room R.holds self.new).schedule ≡ started result (meaning R.room R.holds self.old).schedule }
         ensures marks { (meaning R.room R.holds self.new).marks ≡ (meaning R.room R.holds self.old).marks }
     {
+        // Taken apart here: where nobody waits, nothing is due.
         let Some(w) = self.set.highest() else {
             return None;
         };

@@ -1,4 +1,5 @@
-// The marks of a core, and who is registered for an event.
+// The marks of a core, and who is registered for an event. An event comes with a task or a vector here as it does in the
+// calls that bring them: a struct would only name the pair.
 ghost use Rattle.std.specs.Prelude.{◌≡◌, ℕ, ◌<◌, ◌≤◌, Bool, true, false, Some, None};
 ghost use Rattle.vectors.specs.Vectors.{in_vector};
 ghost use Rattle.machine.specs.Moves.{meant_under};

@@ -9,7 +9,7 @@ use machine::{Call, Refusal, Reply};
 use sets::waiting::WaitingSet;
 
 impl<R: WaitingSet> Kernel<R> {
-    // Makes the call by its kind.
+    // Makes the call by its kind. Apart from `call`, which adds the law to its two facts.
     fn act(&mut self, c: &Call) -> Result<Reply, Refusal>
         ensures { Follows R.room R.holds c.now self.old self.new result }
     {

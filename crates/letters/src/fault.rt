@@ -38,7 +38,7 @@ impl Display for LettersCause {
 impl Error for LettersCause {}
 
 // A cause, and the byte of the text where it was found. Each layer has a struct of its own: `From` between two instances
-// of one generic struct would belong to neither of the crates that would write it.
+// of one generic struct would belong to neither of the crates that would write it. So each cause has its own `Display`.
 #[derive(Clone, Copy, PartialEq, Debug)]
 pub struct LettersFault {
     pub cause: LettersCause,

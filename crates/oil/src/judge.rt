@@ -48,6 +48,7 @@ fn refer(
     ensures value { result ≡ referred_by draft kind (known_by (find names.now name)) place }
 {
     let fault = PlanFault::new(PlanCause::NotKnown, place);
+    // Taken apart where the name is looked up, since the fault belongs to it.
     let Some(record) = look_up(names, name) else {
         return Err(fault);
     };

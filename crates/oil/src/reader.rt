@@ -15,7 +15,7 @@ use grammar::item::Item;
 use grammar::parser::{begin, next_item};
 use plan::record::Plan;
 
-// How many records a table needs: one for each task, resource and event.
+// How many records a table needs: one for each task, resource and event. By `as`, since a constant's value calls no function.
 const RECORDS: usize = TASKS as usize + RESOURCES as usize + EVENTS as usize;
 
 // Reads a whole text, with an empty table.

@@ -28,7 +28,7 @@ fn filled(rows: &[u64], w: u64) -> Option<[u64; 32]>
 }
 
 impl Plan {
-    // A record that declares nothing.
+    // A record that declares nothing, written out: a struct with ghost fields derives no Default.
     pub fn unfilled() -> Plan
         ensures { MadeOf 0 [] [] result }
     {
@@ -48,6 +48,7 @@ impl Plan {
     {
         let user_rows = filled(users, declared)?;
         let registered_rows = filled(registered, declared)?;
+        // Both lengths are at most 32, as `filled` has tested.
         Some(Plan {
             declared,
             resources: users.len() as u8,

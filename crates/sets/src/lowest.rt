@@ -20,5 +20,6 @@ pub fn lowest_one(n: u8) -> u8
     ensures value { result ≡ lowest_place n }
     ensures bound { result < 8 }
 {
+    // `as`, as in the two-level set, which says why.
     LOWEST[n as usize]
 }

@@ -44,6 +44,7 @@ impl WaitingSet for WordSet {
         contains(self.word, t)
     }
 
+    // `put` and `take` differ in one word; a function over it would be as long as both.
     fn put(&mut self, t: u8) -> bool {
         if t >= self.size {
             return false;

@@ -24,6 +24,7 @@ fn read_digits(field: &[u8], radix: u32, most: usize) -> Option<u64>
 pub(crate) fn read_number(field: &[u8]) -> Option<u16>
     ensures { result ≡ number_field field.now }
 {
+    // Three digits are at most 999.
     read_digits(field, 10, 3).map(|n| n as u16)
 }
 

@@ -11,7 +11,7 @@ use crate::pieces::cut_at;
 use crate::verbs::Verb;
 use machine::Call;
 
-// The call of a verb alone.
+// The call of a verb alone. This function and the next two are the definition's cases by the number of fields.
 fn read_bare(verb: Verb) -> Option<Call>
     ensures { result ≡ asked_bare verb }
 {

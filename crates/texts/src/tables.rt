@@ -22,6 +22,7 @@ fn fault_text(number: u8, place: usize, rest: &[u8]) -> Front
 {
     let mut text = Front::empty();
     text.put_all(rest);
+    // `usize` has no `From` into 64 bits.
     text.put_number(place as u64);
     text.put_number(u64::from(number));
     text.put_all(b"plan,");

@@ -34,6 +34,7 @@ pub fn without(v: u64, t: u8) -> u64
 pub fn highest(v: u64) -> Option<u8>
     ensures { result ≡ greatest 64 (in_vector v) }
 {
+    // A place in 64 bits fits a byte.
     v.checked_ilog2().map(|top| top as u8)
 }
 

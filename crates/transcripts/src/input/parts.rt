@@ -35,6 +35,7 @@ impl Input {
         ensures value { result ≡ nat_le 1000000 (feeds (bytes_of self.now)) }
         ensures enough { result ≡ true → Enough (bytes_of self.now) }
     {
+        // 32 bits have no `From` into `usize`.
         self.ends >= LIMIT as usize
     }
 
