@@ -22,7 +22,7 @@ use Rattle.std.proofs.lemmas.List.{map-append}
 use Rattle.std.proofs.lemmas.List.Elements.{filter_map-append}
 use Rattle.oil.specs.Meaning.{At, In, name_of, resource_name, event_name, priority, activation, names_of, resources_of, events_of, priorities_of, activations_of, AllEarlier, uses_of, awaits_of, users_of, registered_of}
 use Rattle.oil.proofs.Vectors.{at_new, at_split, vector_more}
-use Rattle.oil.proofs.Stands.{ext_same, ext_more, StandsFor, Looked, Book, enter, vecs_declare, vecs_like, Drawn}
+use Rattle.oil.proofs.Stands.{ext_same, ext_more, StandsFor, Looked, Book, enter, vecs_declare, vecs_like, Drawn, drawn_rows}
 
 -- the lists of several objects
 pub names_app : (xs bs : List Object) → names_of (xs ++ bs) ≡ names_of xs ++ names_of bs
@@ -72,17 +72,7 @@ book_like {ns} {rn} {en} {ns'} {rn'} {en'} {es} a b e t =
 
 pub drawn_like : {ps ps' : List ℕ} {rn en rn' en' : List (List ℕ)} {us us' ls ls' : List ℕ → List ℕ} {c c' : ℕ} {d : Draft} → ps ≡ ps' → rn ≡ rn' → en ≡ en' → ((m : List ℕ) → us' m ≡ us m) → ((m : List ℕ) → ls' m ≡ ls m) → c ≡ c' → Drawn ps rn en us ls c d → Drawn ps' rn' en' us' ls' c' d
 drawn_like {ps} {ps'} {rn} {en} {rn'} {en'} {us} {us'} {ls} {ls'} {c} {c'} {d} a b e f g h x =
-    let y : Drawn ps rn en us' ls' c d = record {
-      found = x.found;
-      same_count = x.same_count;
-      same_resources = x.same_resources;
-      same_events = x.same_events;
-      few_tasks = x.few_tasks;
-      few_resources = x.few_resources;
-      few_events = x.few_events;
-      users = vecs_like rn us us' d.users f x.users;
-      registered = vecs_like en ls ls' d.registered g x.registered;
-    } in
+    let y : Drawn ps rn en us' ls' c d = drawn_rows x (vecs_like rn us us' d.users f x.users) (vecs_like en ls ls' d.registered g x.registered) in
     subst (λ k. Drawn ps' rn' en' us' ls' k d) h (subst (λ l. Drawn ps' rn' l us' ls' c d) e (subst (λ l. Drawn ps' l en us' ls' c d) b (subst (λ l. Drawn l rn en us' ls' c d) a y)))
 
 pub stands_in : (ns rn en : List (List ℕ)) (n : List ℕ) (k : Kind) (i : ℕ) → StandsFor ns rn en n k i → In ns n

@@ -23,7 +23,7 @@ use Rattle.oil.specs.Draft.{Drafted, added, with_resources, with_events, with_ta
 use Rattle.oil.specs.Reading.{Entry, look_up, gathered}
 use Rattle.oil.specs.Meaning.{names_of, resources_of, events_of, priorities_of, AllEarlier, uses_in, awaits_in, users_of, registered_of, VectorOf, RowsOf}
 use Rattle.oil.proofs.Vectors.{vector_none, vector_same, taken_out}
-use Rattle.oil.proofs.Stands.{Looked, Book, vecs_add, Drawn}
+use Rattle.oil.proofs.Stands.{Looked, Book, vecs_add, Drawn, drawn_rows}
 use Rattle.oil.proofs.Judged.{names_app, resources_app, events_app, priorities_app, users_app, registered_app, AllowedFrom, joined, Tree, book_like, drawn_like, stands_in, fresh, tree_resource, tree_event, task_book, task_drawn, with_task, cases_map, gathered_item, declares_says, priority_says, activation_says, uses_says, awaits_says}
 
 snoc_cond : (b : Bool) (xs l : List ℕ) (v : ℕ) → (xs ++ cond b (v ∷ []) []) ++ l ≡ xs ++ cond b (v ∷ l) l
@@ -65,17 +65,7 @@ module _ (text : List ℕ) (P : Draft → Type 0) (N : Type 0) (before : List Ob
       more d2 us' ls' m2 pos2 (λ k. eu k ∙ snoc_cond (bytes_eq n k) (us k) (uses_in k v rs) v) el dr2 tb2 ((i, at), kn) fu sc2)
       state.Referred t.end y.0 y.1 y.3 refl y.2
       (with_users d (added d.users i d.current))
-      (record {
-        found = dr.found;
-        same_count = dr.same_count;
-        same_resources = dr.same_resources;
-        same_events = dr.same_events;
-        few_tasks = dr.few_tasks;
-        few_resources = dr.few_resources;
-        few_events = dr.few_events;
-        users = vecs_add rn us us2 d.users n i v d.current at only dr.few_resources fits cur (λ k. refl) dr.users;
-        registered = dr.registered;
-      })
+      (drawn_rows dr (vecs_add rn us us2 d.users n i v d.current at only dr.few_resources fits cur (λ k. refl) dr.users) dr.registered)
       tb cur (m - 1) (omega arith)))
   references_says (awaits n ∷ rs) ss q us ls bad more s pos p f up j sc d dr tb cur m fuel =
       let rn = resources_of before in
@@ -98,17 +88,7 @@ module _ (text : List ℕ) (P : Draft → Type 0) (N : Type 0) (before : List Ob
       more d2 us' ls' m2 pos2 eu (λ k. el k ∙ snoc_cond (bytes_eq n k) (ls k) (awaits_in k v rs) v) dr2 tb2 ((i, at), kn) fu sc2)
       state.Referred t.end y.0 y.1 y.3 refl y.2
       (with_registered d (added d.registered i d.current))
-      (record {
-        found = dr.found;
-        same_count = dr.same_count;
-        same_resources = dr.same_resources;
-        same_events = dr.same_events;
-        few_tasks = dr.few_tasks;
-        few_resources = dr.few_resources;
-        few_events = dr.few_events;
-        users = dr.users;
-        registered = vecs_add en ls ls2 d.registered n i v d.current at only dr.few_events fits cur (λ k. refl) dr.registered;
-      })
+      (drawn_rows dr dr.users (vecs_add en ls ls2 d.registered n i v d.current at only dr.few_events fits cur (λ k. refl) dr.registered))
       tb cur (m - 1) (omega arith)))
 
 -- a vector is empty exactly if it has no task

@@ -116,3 +116,17 @@ pub record Drawn (ps : List ℕ) (rn en : List (List ℕ)) (us ls : List ℕ →
   pub few_events : length en ≤ 32
   pub users : Vecs rn us d.users
   pub registered : Vecs en ls d.registered
+
+-- .. and does so with other rows
+pub drawn_rows : {ps : List ℕ} {rn en : List (List ℕ)} {us ls us' ls' : List ℕ → List ℕ} {count : ℕ} {d : Draft} {vs ws : List ℕ} → Drawn ps rn en us ls count d → Vecs rn us' vs → Vecs en ls' ws → Drawn ps rn en us' ls' count (record d { users = vs; registered = ws })
+drawn_rows x u l = record {
+  found = x.found;
+  same_count = x.same_count;
+  same_resources = x.same_resources;
+  same_events = x.same_events;
+  few_tasks = x.few_tasks;
+  few_resources = x.few_resources;
+  few_events = x.few_events;
+  users = u;
+  registered = l;
+}
