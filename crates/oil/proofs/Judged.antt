@@ -220,6 +220,18 @@ later d kind.Resource = with_resources d (d.resources + 1)
 later d kind.Event = with_events d (d.events + 1)
 later d kind.Task = with_tasks d (d.tasks + 1)
 
+-- the objects of a kind that may be referred to
+abbrev pub among : Kind → List (List ℕ) → List (List ℕ) → List (List ℕ)
+among kind.Resource rn en = rn
+among kind.Event rn en = en
+among kind.Task rn en = []
+
+-- the draft with the task at hand added to what belongs to such an object
+abbrev pub adding : Draft → Kind → ℕ → Draft
+adding d kind.Resource i = with_users d (added d.users i d.current)
+adding d kind.Event i = with_registered d (added d.registered i d.current)
+adding d kind.Task i = d
+
 module _ (P : Draft → Type 0) (N : Type 0) where
   pub declares_says : (es : List Entry) (d : Draft) (n : List ℕ) (place : ℕ) (k : Kind) (found : Option Known) (cont : Draft → List Entry → Drafted) → ((x : Known) → found ≡ Some x → N) → (Limit d k → N) → (found ≡ None → (Limit d k → ⊥) → MatchResult (cont (later d k) (record { name = n; kind = k; number = next_number d k } ∷ es)) P (λ _. N)) → MatchResult (and_then (unless_known found place (grown d k place)) (λ e. cont e (learnt es d k n (unless_known found place (grown d k place))))) P (λ _. N)
   declares_says es d n place k (Some x) cont known full more = known x refl
@@ -241,20 +253,23 @@ module _ (P : Draft → Type 0) (N : Type 0) where
       cond_both (eqb v 1) _ _ (λ (x : Drafted). MatchResult (and_then x cont) P (λ _. N)) (λ y. more (eqb-true v 1 y)) (λ n. bad (eqb-false v 1 n))
 
   module _ (ns rn en : List (List ℕ)) (n : List ℕ) (d : Draft) (place : ℕ) (cont : Draft → Drafted) where
-    uses_by : ((In rn n → ⊥) → N) → ((i : ℕ) → At rn i n → ((j : ℕ) → At rn j n → j ≡ i) → MatchResult (cont (with_users d (added d.users i d.current))) P (λ _. N)) → (h : Kind) (i : ℕ) → StandsFor ns rn en n h i → MatchResult (and_then (referred_to d kind.Resource h i place) cont) P (λ _. N)
-    uses_by bad good kind.Resource i e = good i e.1 e.2
-    uses_by bad good kind.Event i e = bad e.3
-    uses_by bad good kind.Task i e = bad e.1
+    abbrev Unnamed : Kind → Type 0
+    Unnamed k = (In (among k rn en) n → ⊥) → N
 
-    pub uses_says : (found : Option Known) → Looked ns rn en n found → ((In rn n → ⊥) → N) → ((i : ℕ) → At rn i n → ((j : ℕ) → At rn j n → j ≡ i) → MatchResult (cont (with_users d (added d.users i d.current))) P (λ _. N)) → MatchResult (and_then (referred_by d kind.Resource found place) cont) P (λ _. N)
-    uses_says None l bad good = bad l.1
-    uses_says (Some r) l bad good = uses_by bad good r.kind r.number l
+    abbrev Goes : Kind → Type 0
+    Goes k = (i : ℕ) → At (among k rn en) i n → ((j : ℕ) → At (among k rn en) j n → j ≡ i) → MatchResult (cont (adding d k i)) P (λ _. N)
 
-    awaits_by : ((In en n → ⊥) → N) → ((i : ℕ) → At en i n → ((j : ℕ) → At en j n → j ≡ i) → MatchResult (cont (with_registered d (added d.registered i d.current))) P (λ _. N)) → (h : Kind) (i : ℕ) → StandsFor ns rn en n h i → MatchResult (and_then (referred_to d kind.Event h i place) cont) P (λ _. N)
-    awaits_by bad good kind.Resource i e = bad e.3
-    awaits_by bad good kind.Event i e = good i e.1 e.2
-    awaits_by bad good kind.Task i e = bad e.2
+    refers_by : (k h : Kind) (i : ℕ) → Unnamed k → Goes k → StandsFor ns rn en n h i → MatchResult (and_then (referred_to d k h i place) cont) P (λ _. N)
+    refers_by kind.Resource kind.Resource i bad good e = good i e.1 e.2
+    refers_by kind.Resource kind.Event i bad good e = bad e.3
+    refers_by kind.Resource kind.Task i bad good e = bad e.1
+    refers_by kind.Event kind.Resource i bad good e = bad e.3
+    refers_by kind.Event kind.Event i bad good e = good i e.1 e.2
+    refers_by kind.Event kind.Task i bad good e = bad e.2
+    refers_by kind.Task h i bad good e = bad (λ z. absurd z.1)
 
-    pub awaits_says : (found : Option Known) → Looked ns rn en n found → ((In en n → ⊥) → N) → ((i : ℕ) → At en i n → ((j : ℕ) → At en j n → j ≡ i) → MatchResult (cont (with_registered d (added d.registered i d.current))) P (λ _. N)) → MatchResult (and_then (referred_by d kind.Event found place) cont) P (λ _. N)
-    awaits_says None l bad good = bad l.2
-    awaits_says (Some r) l bad good = awaits_by bad good r.kind r.number l
+    pub refers_says : (k : Kind) (found : Option Known) → Looked ns rn en n found → Unnamed k → Goes k → MatchResult (and_then (referred_by d k found place) cont) P (λ _. N)
+    refers_says kind.Resource None l bad good = bad l.1
+    refers_says kind.Event None l bad good = bad l.2
+    refers_says kind.Task None l bad good = bad (λ z. absurd z.1)
+    refers_says k (Some r) l bad good = refers_by k r.kind r.number bad good l

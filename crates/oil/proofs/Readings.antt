@@ -1,11 +1,13 @@
 -- A text of some objects is read exactly if they are allowed, and then to their plan.
-use Rattle.std.proofs.Common.{◌≡◌, ℕ, ◌+◌, ◌-◌, ◌^◌, ◌<◌, ◌≤◌, Bool, true, false, cond, eqb, List, [], ◌∷◌, ◌++◌, length, Ok, Err, codes, sym, refl, ap, ◌∙◌, subst, append_assoc, append-nil, arith, length-append, MatchResult}
+use Rattle.std.proofs.Common.{◌≡◌, ℕ, ◌+◌, ◌-◌, ◌^◌, ◌<◌, ◌≤◌, Bool, true, false, cond, eqb, List, [], ◌∷◌, ◌++◌, length, Some, Ok, Err, codes, sym, refl, ap, ◌∙◌, subst, append_assoc, append-nil, arith, length-append, MatchResult}
 use Rattle.std.proofs.lemmas.Bool.{cond_both, eqb-true, eqb-false, both_ways}
 use Rattle.std.specs.Str.{bytes_eq}
 use Rattle.vectors.specs.Vectors.{in_vector}
 use Rattle.vectors.proofs.Vectors.{in_none}
 use Rattle.letters.specs.declared.token.Mark.TheVariants as marks
+use Rattle.letters.specs.declared.token.Token.{Token}
 use Rattle.letters.specs.Tokens.{bytes_of}
+use Rattle.grammar.specs.declared.item.Kind.{Kind}
 use Rattle.grammar.specs.declared.item.Kind.TheVariants as kind
 use Rattle.grammar.specs.declared.item.State.{State}
 use Rattle.grammar.specs.declared.item.State.TheVariants as state
@@ -13,24 +15,43 @@ use Rattle.grammar.specs.declared.item.Item.TheVariants as item
 use Rattle.grammar.specs.declared.item.Step.{Step}
 use Rattle.grammar.specs.Faults.{and_then}
 use Rattle.grammar.specs.Slots.{followed}
-use Rattle.grammar.specs.Items.{template, step, object_at, attribute_at, judged_at}
+use Rattle.grammar.specs.Items.{template, step, object_at, referred_at, reference_at, attribute_at, judged_at}
 use Rattle.grammar.specs.Language.{Sign, word, num, mark, Scan, AtEnd, Reference, uses, awaits, Object, resource, event, task, references, resource_rest, event_rest, activation_rest, priority_rest, task_rest, objects}
-use Rattle.grammar.proofs.Complete.{scan_room, fixed_back, numeral_back, open_object, close_text, close_task, refer_to, item_of}
+use Rattle.grammar.proofs.Complete.{kind_bytes, scan_room, fixed_back, numeral_back, open_object, close_text, close_task, refer_to, item_of}
 use Rattle.oil.specs.declared.draft.Draft.{Draft}
 use Rattle.oil.specs.declared.fault.PlanCause.TheVariants as cause
 use Rattle.oil.specs.Faults.{refusal}
 use Rattle.oil.specs.Draft.{Drafted, added, with_resources, with_events, with_tasks, with_users, with_registered}
 use Rattle.oil.specs.Reading.{Entry, look_up, gathered}
-use Rattle.oil.specs.Meaning.{names_of, resources_of, events_of, priorities_of, AllEarlier, uses_in, awaits_in, users_of, registered_of, VectorOf, RowsOf}
+use Rattle.oil.specs.Meaning.{At, In, names_of, resources_of, events_of, priorities_of, AllEarlier, uses_in, awaits_in, users_of, registered_of, VectorOf, RowsOf}
 use Rattle.oil.proofs.Vectors.{vector_none, vector_same, taken_out}
 use Rattle.oil.proofs.Stands.{Looked, Book, vecs_add, Drawn, drawn_rows}
-use Rattle.oil.proofs.Judged.{names_app, resources_app, events_app, priorities_app, users_app, registered_app, AllowedFrom, joined, Tree, book_like, drawn_like, stands_in, fresh, tree_resource, tree_event, task_book, task_drawn, with_task, cases_map, gathered_item, declares_says, priority_says, activation_says, uses_says, awaits_says}
+use Rattle.oil.proofs.Judged.{names_app, resources_app, events_app, priorities_app, users_app, registered_app, AllowedFrom, joined, Tree, book_like, drawn_like, stands_in, fresh, tree_resource, tree_event, task_book, task_drawn, with_task, cases_map, gathered_item, declares_says, priority_says, activation_says, among, adding, refers_says}
 
 snoc_cond : (b : Bool) (xs l : List ℕ) (v : ℕ) → (xs ++ cond b (v ∷ []) []) ++ l ≡ xs ++ cond b (v ∷ l) l
 snoc_cond true xs l v = append_assoc xs (v ∷ []) l
 snoc_cond false xs l v = ap (λ z. z ++ l) (append-nil xs)
 
 module _ (text : List ℕ) (P : Draft → Type 0) (N : Type 0) (before : List Object) (ns : List (List ℕ)) (ps : List ℕ) (count v : ℕ) (fits : v < 64) (names : List Entry) where
+  -- one reference, and then the rest
+  refers_on : (k : Kind) (n : List ℕ) (us : List Sign) (q : ℕ) → ((t : Token) → reference_at text t (Some k) ≡ referred_at text t k) → (s : State) (pos p : ℕ) → followed text (template s) pos ≡ Ok p → pos ≤ p → judged_at text s p ≡ attribute_at text p → Scan text p (word (kind_bytes text k) ∷ mark marks.Equals ∷ word n ∷ mark marks.Semicolon ∷ us) q
+      → (d : Draft) → Book ns (resources_of before) (events_of before) names → (m : ℕ) → length text < m + pos
+      → ((In (among k (resources_of before) (events_of before)) n → ⊥) → N)
+      → ((i pos2 p2 : ℕ) → At (among k (resources_of before) (events_of before)) i n → ((j : ℕ) → At (among k (resources_of before) (events_of before)) j n → j ≡ i) → followed text (template state.Referred) pos2 ≡ Ok p2 → pos2 ≤ p2 → Scan text p2 us q → length text < (m - 1) + pos2 → MatchResult (gathered (m - 1) text names (adding d k i) state.Referred pos2) P (λ _. N))
+      → MatchResult (gathered m text names d s pos) P (λ _. N)
+  refers_on k n us q known s pos p f up j sc d tb m fuel bad good =
+      let x = refer_to text k p q n (mark marks.Semicolon ∷ us) known sc in
+      let t = x.0 in
+      let room = scan_room text p q (word (kind_bytes text k)) (mark marks.Equals ∷ word n ∷ mark marks.Semicolon ∷ us) sc in
+      let far = x.3 in
+      let y = fixed_back text (template state.Referred) t.end q us (tt, tt) x.2 in
+      let st : Step = record { item = item.Refers k t; state = state.Referred; pos = t.end } in
+      let gi = gathered_item m text names d s pos st (item_of text s pos p st f (j ∙ x.1)) (omega arith) in
+      subst (λ r. MatchResult r P (λ _. N)) (sym gi)
+      (refers_says P N ns (resources_of before) (events_of before) n d t.place (λ e. gathered (m - 1) text names e state.Referred t.end) k (look_up names (bytes_of text t))
+      (subst (λ b. Looked ns (resources_of before) (events_of before) n (look_up names b)) (sym x.4) (tb.looked n))
+      bad (λ i at only. good i t.end y.0 at only y.1 y.3 y.2 (omega arith)))
+
   references_says : (rs : List Reference) (ss : List Sign) (q : ℕ) (us ls : List ℕ → List ℕ)
       → ((AllEarlier before rs → ⊥) → N)
       → ((d : Draft) (us' ls' : List ℕ → List ℕ) (m pos : ℕ) → ((k : List ℕ) → us' k ≡ us k ++ uses_in k v rs) → ((k : List ℕ) → ls' k ≡ ls k ++ awaits_in k v rs) → Drawn ps (resources_of before) (events_of before) us' ls' count d → Book ns (resources_of before) (events_of before) names → AllEarlier before rs → length text < m + pos → Scan text pos (mark marks.Semicolon ∷ ss) q → MatchResult (gathered m text names d state.Closed pos) P (λ _. N))
@@ -45,51 +66,19 @@ module _ (text : List ℕ) (P : Draft → Type 0) (N : Type 0) (before : List Ob
       subst (λ r. MatchResult r P (λ _. N)) (sym gi)
       (more d us ls (m - 1) x.0 (λ k. sym (append-nil (us k))) (λ k. sym (append-nil (ls k))) dr tb tt (omega arith) x.2)
   references_says (uses n ∷ rs) ss q us ls bad more s pos p f up j sc d dr tb cur m fuel =
-      let rn = resources_of before in
-      let en = events_of before in
-      let x = refer_to text kind.Resource p q n (mark marks.Semicolon ∷ references rs ss) (λ t. refl) sc in
-      let t = x.0 in
-      let room = scan_room text p q (word (codes "RESOURCE")) (mark marks.Equals ∷ word n ∷ mark marks.Semicolon ∷ references rs ss) sc in
-      let far = x.3 in
-      let y = fixed_back text (template state.Referred) t.end q (references rs ss) (tt, tt) x.2 in
-      let st : Step = record { item = item.Refers kind.Resource t; state = state.Referred; pos = t.end } in
-      let gi = gathered_item m text names d s pos st (item_of text s pos p st f (j ∙ x.1)) (omega arith) in
       let us2 : List ℕ → List ℕ = λ k. us k ++ cond (bytes_eq n k) (v ∷ []) [] in
-      subst (λ r. MatchResult r P (λ _. N)) (sym gi)
-      (uses_says P N ns rn en n d t.place (λ e. gathered (m - 1) text names e state.Referred t.end) (look_up names (bytes_of text t))
-      (subst (λ b. Looked ns rn en n (look_up names b)) (sym x.4) (tb.looked n))
-      (λ no. bad (λ k. no k.0))
-      (λ i at only.
+      refers_on kind.Resource n (references rs ss) q (λ t. refl) s pos p f up j sc d tb m fuel (λ no. bad (λ k. no k.0))
+      (λ i pos2 p2 at only f2 up2 sc2 fuel2.
       references_says rs ss q us2 ls (λ nk. bad (λ k. nk k.1))
-      (λ d2 us' ls' m2 pos2 eu el dr2 tb2 kn fu sc2.
-      more d2 us' ls' m2 pos2 (λ k. eu k ∙ snoc_cond (bytes_eq n k) (us k) (uses_in k v rs) v) el dr2 tb2 ((i, at), kn) fu sc2)
-      state.Referred t.end y.0 y.1 y.3 refl y.2
-      (with_users d (added d.users i d.current))
-      (drawn_rows dr (vecs_add rn us us2 d.users n i v d.current at only dr.few_resources fits cur (λ k. refl) dr.users) dr.registered)
-      tb cur (m - 1) (omega arith)))
+      (λ d2 us' ls' m2 pos3 eu el dr2 tb2 kn fu sc3. more d2 us' ls' m2 pos3 (λ k. eu k ∙ snoc_cond (bytes_eq n k) (us k) (uses_in k v rs) v) el dr2 tb2 ((i, at), kn) fu sc3)
+      state.Referred pos2 p2 f2 up2 refl sc2 (adding d kind.Resource i) (drawn_rows dr (vecs_add (resources_of before) us us2 d.users n i v d.current at only dr.few_resources fits cur (λ k. refl) dr.users) dr.registered) tb cur (m - 1) fuel2)
   references_says (awaits n ∷ rs) ss q us ls bad more s pos p f up j sc d dr tb cur m fuel =
-      let rn = resources_of before in
-      let en = events_of before in
-      let x = refer_to text kind.Event p q n (mark marks.Semicolon ∷ references rs ss) (λ t. refl) sc in
-      let t = x.0 in
-      let room = scan_room text p q (word (codes "EVENT")) (mark marks.Equals ∷ word n ∷ mark marks.Semicolon ∷ references rs ss) sc in
-      let far = x.3 in
-      let y = fixed_back text (template state.Referred) t.end q (references rs ss) (tt, tt) x.2 in
-      let st : Step = record { item = item.Refers kind.Event t; state = state.Referred; pos = t.end } in
-      let gi = gathered_item m text names d s pos st (item_of text s pos p st f (j ∙ x.1)) (omega arith) in
       let ls2 : List ℕ → List ℕ = λ k. ls k ++ cond (bytes_eq n k) (v ∷ []) [] in
-      subst (λ r. MatchResult r P (λ _. N)) (sym gi)
-      (awaits_says P N ns rn en n d t.place (λ e. gathered (m - 1) text names e state.Referred t.end) (look_up names (bytes_of text t))
-      (subst (λ b. Looked ns rn en n (look_up names b)) (sym x.4) (tb.looked n))
-      (λ no. bad (λ k. no k.0))
-      (λ i at only.
+      refers_on kind.Event n (references rs ss) q (λ t. refl) s pos p f up j sc d tb m fuel (λ no. bad (λ k. no k.0))
+      (λ i pos2 p2 at only f2 up2 sc2 fuel2.
       references_says rs ss q us ls2 (λ nk. bad (λ k. nk k.1))
-      (λ d2 us' ls' m2 pos2 eu el dr2 tb2 kn fu sc2.
-      more d2 us' ls' m2 pos2 eu (λ k. el k ∙ snoc_cond (bytes_eq n k) (ls k) (awaits_in k v rs) v) dr2 tb2 ((i, at), kn) fu sc2)
-      state.Referred t.end y.0 y.1 y.3 refl y.2
-      (with_registered d (added d.registered i d.current))
-      (drawn_rows dr dr.users (vecs_add en ls ls2 d.registered n i v d.current at only dr.few_events fits cur (λ k. refl) dr.registered))
-      tb cur (m - 1) (omega arith)))
+      (λ d2 us' ls' m2 pos3 eu el dr2 tb2 kn fu sc3. more d2 us' ls' m2 pos3 eu (λ k. el k ∙ snoc_cond (bytes_eq n k) (ls k) (awaits_in k v rs) v) dr2 tb2 ((i, at), kn) fu sc3)
+      state.Referred pos2 p2 f2 up2 refl sc2 (adding d kind.Event i) (drawn_rows dr dr.users (vecs_add (events_of before) ls ls2 d.registered n i v d.current at only dr.few_events fits cur (λ k. refl) dr.registered)) tb cur (m - 1) fuel2)
 
 -- a vector is empty exactly if it has no task
 some_from : (v : ℕ) (ps : List ℕ) → VectorOf ps v → (v ≡ 0 → ⊥) → 0 < length ps
