@@ -22,7 +22,7 @@ use Rattle.std.proofs.lemmas.List.{map-append}
 use Rattle.std.proofs.lemmas.List.Elements.{filter_map-append}
 use Rattle.oil.specs.Meaning.{At, In, name_of, resource_name, event_name, priority, activation, names_of, resources_of, events_of, priorities_of, activations_of, AllEarlier, uses_of, awaits_of, users_of, registered_of}
 use Rattle.oil.proofs.Vectors.{at_new, at_split, vector_more}
-use Rattle.oil.proofs.Stands.{ext_same, ext_more, StandsFor, Looked, Book, enter, vecs_declare, vecs_like, Drawn, drawn_rows}
+use Rattle.oil.proofs.Stands.{Ext, ext_same, ext_more, StandsFor, Looked, Book, enter, vecs_declare, vecs_like, Drawn, drawn_with, drawn_rows}
 
 -- the lists of several objects
 pub names_app : (xs bs : List Object) → names_of (xs ++ bs) ≡ names_of xs ++ names_of bs
@@ -85,6 +85,20 @@ module _ {os : List Object} {d : Draft} {es : List Entry} (t : Tree os d es) (n 
   pub fresh : (In (names_of os) n → ⊥) × (In (resources_of os) n → ⊥) × (In (events_of os) n → ⊥)
   fresh = subst (Looked (names_of os) (resources_of os) (events_of os) n) none (t.book.looked n)
 
+  -- .. that is a resource or an event: it has a name, and no task
+  tree_named : (o : Object) (k : Kind) (i : ℕ) (rn en : List (List ℕ)) (e : Draft) → names_of (o ∷ []) ≡ n ∷ [] → priorities_of (o ∷ []) ≡ [] → ((m : List ℕ) → users_of m (o ∷ []) ≡ []) → ((m : List ℕ) → registered_of m (o ∷ []) ≡ [])
+      → resources_of (os ++ (o ∷ [])) ≡ rn → events_of (os ++ (o ∷ [])) ≡ en → Ext n (resources_of os) rn → Ext n (events_of os) en → StandsFor (names_of os ++ (n ∷ [])) rn en n k i
+      → Drawn (priorities_of os) rn en (λ m. users_of m os) (λ m. registered_of m os) (length (priorities_of os)) e → Tree (os ++ (o ∷ [])) e (record { name = n; kind = k; number = i } ∷ es)
+  tree_named o k i rn en e name no_priority no_users no_registered er ee xr xe stands dr =
+      let ep = priorities_app os (o ∷ []) ∙ ap (λ l. priorities_of os ++ l) no_priority ∙ append-nil (priorities_of os) in
+      record {
+        book = book_like (ap (λ l. names_of os ++ l) (sym name) ∙ sym (names_app os (o ∷ []))) (sym er) (sym ee) (enter k i (ext_more n (names_of os)) xr xe t.book stands);
+        drawn = drawn_like {us = λ m. users_of m os} {ls = λ m. registered_of m os} (sym ep) (sym er) (sym ee)
+            (λ m. users_app m os (o ∷ []) ∙ ap (λ l. users_of m os ++ l) (no_users m) ∙ append-nil (users_of m os))
+            (λ m. registered_app m os (o ∷ []) ∙ ap (λ l. registered_of m os ++ l) (no_registered m) ∙ append-nil (registered_of m os))
+            (ap length (sym ep)) dr;
+      }
+
   pub tree_resource : (d.resources ≡ 32 → ⊥) → Tree (os ++ (resource n ∷ [])) (with_resources d (d.resources + 1)) (record { name = n; kind = kind.Resource; number = d.resources } ∷ es)
   tree_resource low =
       let x = t.drawn in
@@ -93,28 +107,11 @@ module _ {os : List Object} {d : Draft} {es : List Entry} (t : Tree os d es) (n 
       let number = x.same_resources in
       let a = x.few_resources in
       let sized = length-append rn (n ∷ []) in
-      record {
-        book = book_like (sym (names_app os o)) (sym (resources_app os o)) (sym (events_app os o ∙ append-nil (events_of os)))
-            (enter kind.Resource d.resources (ext_more n (names_of os)) (ext_more n rn) (ext_same n (events_of os)) t.book (
-              (length (names_of os), at_new (names_of os) n),
-              subst (λ i. At (rn ++ (n ∷ [])) i n) (sym number) (at_new rn n),
-              (λ j h. ⊎_elim (λ old. absurd (fresh.1 (j, old))) (λ new. new.0 ∙ sym number) (at_split rn n j n h)),
-              fresh.2,
-            ));
-        drawn = drawn_like {us = λ m. users_of m os} {ls = λ m. registered_of m os} (sym (priorities_app os o ∙ append-nil (priorities_of os))) (sym (resources_app os o)) (sym (events_app os o ∙ append-nil (events_of os)))
-            (λ m. users_app m os o ∙ append-nil (users_of m os)) (λ m. registered_app m os o ∙ append-nil (registered_of m os)) (ap length (sym (priorities_app os o ∙ append-nil (priorities_of os))))
-            (record {
-              found = x.found;
-              same_count = x.same_count;
-              same_resources = omega arith;
-              same_events = x.same_events;
-              few_tasks = x.few_tasks;
-              few_resources = omega arith;
-              few_events = x.few_events;
-              users = vecs_declare rn (λ m. users_of m os) d.users n fresh.1 x.users;
-              registered = x.registered;
-            });
-      }
+      let at = subst (λ i. At (rn ++ (n ∷ [])) i n) (sym number) (at_new rn n) in
+      let only : (j : ℕ) → At (rn ++ (n ∷ [])) j n → j ≡ d.resources = λ j h. ⊎_elim (λ old. absurd (fresh.1 (j, old))) (λ new. new.0 ∙ sym number) (at_split rn n j n h) in
+      tree_named (resource n) kind.Resource d.resources (rn ++ (n ∷ [])) (events_of os) (with_resources d (d.resources + 1)) refl refl (λ m. refl) (λ m. refl)
+      (resources_app os o) (events_app os o ∙ append-nil (events_of os)) (ext_more n rn) (ext_same n (events_of os)) ((length (names_of os), at_new (names_of os) n), at, only, fresh.2)
+      (drawn_with x (omega arith) x.same_events (omega arith) x.few_events (vecs_declare rn (λ m. users_of m os) d.users n fresh.1 x.users) x.registered)
 
   pub tree_event : (d.events ≡ 32 → ⊥) → Tree (os ++ (event n ∷ [])) (with_events d (d.events + 1)) (record { name = n; kind = kind.Event; number = d.events } ∷ es)
   tree_event low =
@@ -124,28 +121,11 @@ module _ {os : List Object} {d : Draft} {es : List Entry} (t : Tree os d es) (n 
       let number = x.same_events in
       let a = x.few_events in
       let sized = length-append en (n ∷ []) in
-      record {
-        book = book_like (sym (names_app os o)) (sym (resources_app os o ∙ append-nil (resources_of os))) (sym (events_app os o))
-            (enter kind.Event d.events (ext_more n (names_of os)) (ext_same n (resources_of os)) (ext_more n en) t.book (
-              (length (names_of os), at_new (names_of os) n),
-              subst (λ i. At (en ++ (n ∷ [])) i n) (sym number) (at_new en n),
-              (λ j h. ⊎_elim (λ old. absurd (fresh.2 (j, old))) (λ new. new.0 ∙ sym number) (at_split en n j n h)),
-              fresh.1,
-            ));
-        drawn = drawn_like {us = λ m. users_of m os} {ls = λ m. registered_of m os} (sym (priorities_app os o ∙ append-nil (priorities_of os))) (sym (resources_app os o ∙ append-nil (resources_of os))) (sym (events_app os o))
-            (λ m. users_app m os o ∙ append-nil (users_of m os)) (λ m. registered_app m os o ∙ append-nil (registered_of m os)) (ap length (sym (priorities_app os o ∙ append-nil (priorities_of os))))
-            (record {
-              found = x.found;
-              same_count = x.same_count;
-              same_resources = x.same_resources;
-              same_events = omega arith;
-              few_tasks = x.few_tasks;
-              few_resources = x.few_resources;
-              few_events = omega arith;
-              users = x.users;
-              registered = vecs_declare en (λ m. registered_of m os) d.registered n fresh.2 x.registered;
-            });
-      }
+      let at = subst (λ i. At (en ++ (n ∷ [])) i n) (sym number) (at_new en n) in
+      let only : (j : ℕ) → At (en ++ (n ∷ [])) j n → j ≡ d.events = λ j h. ⊎_elim (λ old. absurd (fresh.2 (j, old))) (λ new. new.0 ∙ sym number) (at_split en n j n h) in
+      tree_named (event n) kind.Event d.events (resources_of os) (en ++ (n ∷ [])) (with_events d (d.events + 1)) refl refl (λ m. refl) (λ m. refl)
+      (resources_app os o ∙ append-nil (resources_of os)) (events_app os o) (ext_same n (resources_of os)) (ext_more n en) ((length (names_of os), at_new (names_of os) n), at, only, fresh.1)
+      (drawn_with x x.same_resources (omega arith) x.few_resources (omega arith) x.users (vecs_declare en (λ m. registered_of m os) d.registered n fresh.2 x.registered))
 
   -- the name of a task, before its priority
   pub task_book : Book (names_of os ++ (n ∷ [])) (resources_of os) (events_of os) (record { name = n; kind = kind.Task; number = 0 } ∷ es)

@@ -117,16 +117,20 @@ pub record Drawn (ps : List ℕ) (rn en : List (List ℕ)) (us ls : List ℕ →
   pub users : Vecs rn us d.users
   pub registered : Vecs en ls d.registered
 
--- .. and does so with other rows
-pub drawn_rows : {ps : List ℕ} {rn en : List (List ℕ)} {us ls us' ls' : List ℕ → List ℕ} {count : ℕ} {d : Draft} {vs ws : List ℕ} → Drawn ps rn en us ls count d → Vecs rn us' vs → Vecs en ls' ws → Drawn ps rn en us' ls' count (record d { users = vs; registered = ws })
-drawn_rows x u l = record {
+-- .. and does so with other resources and events
+pub drawn_with : {ps : List ℕ} {rn en rn' en' : List (List ℕ)} {us ls us' ls' : List ℕ → List ℕ} {count rs es : ℕ} {d : Draft} {vs ws : List ℕ} → Drawn ps rn en us ls count d → rs ≡ length rn' → es ≡ length en' → length rn' ≤ 32 → length en' ≤ 32 → Vecs rn' us' vs → Vecs en' ls' ws → Drawn ps rn' en' us' ls' count (record d { resources = rs; events = es; users = vs; registered = ws })
+drawn_with x r e few_r few_e u l = record {
   found = x.found;
   same_count = x.same_count;
-  same_resources = x.same_resources;
-  same_events = x.same_events;
+  same_resources = r;
+  same_events = e;
   few_tasks = x.few_tasks;
-  few_resources = x.few_resources;
-  few_events = x.few_events;
+  few_resources = few_r;
+  few_events = few_e;
   users = u;
   registered = l;
 }
+
+-- .. or with other rows alone
+pub drawn_rows : {ps : List ℕ} {rn en : List (List ℕ)} {us ls us' ls' : List ℕ → List ℕ} {count : ℕ} {d : Draft} {vs ws : List ℕ} → Drawn ps rn en us ls count d → Vecs rn us' vs → Vecs en ls' ws → Drawn ps rn en us' ls' count (record d { users = vs; registered = ws })
+drawn_rows x u l = drawn_with x x.same_resources x.same_events x.few_resources x.few_events u l
