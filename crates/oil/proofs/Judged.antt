@@ -21,7 +21,7 @@ use Rattle.std.proofs.lemmas.Grind.{flat_map-append}
 use Rattle.std.proofs.lemmas.List.{map-append}
 use Rattle.std.proofs.lemmas.List.Elements.{filter_map-append}
 use Rattle.oil.specs.Meaning.{At, In, name_of, resource_name, event_name, priority, activation, names_of, resources_of, events_of, priorities_of, activations_of, AllEarlier, uses_of, awaits_of, users_of, registered_of}
-use Rattle.oil.proofs.Vectors.{at_new, at_split, vector_more}
+use Rattle.oil.proofs.Vectors.{at_new, newest, vector_more}
 use Rattle.oil.proofs.Stands.{Ext, ext_same, ext_more, StandsFor, Looked, Book, enter, vecs_declare, vecs_like, Drawn, drawn_with, drawn_rows}
 
 -- the lists of several objects
@@ -107,10 +107,9 @@ module _ {os : List Object} {d : Draft} {es : List Entry} (t : Tree os d es) (n 
       let number = x.same_resources in
       let a = x.few_resources in
       let sized = length-append rn (n ∷ []) in
-      let at = subst (λ i. At (rn ++ (n ∷ [])) i n) (sym number) (at_new rn n) in
-      let only : (j : ℕ) → At (rn ++ (n ∷ [])) j n → j ≡ d.resources = λ j h. ⊎_elim (λ old. absurd (fresh.1 (j, old))) (λ new. new.0 ∙ sym number) (at_split rn n j n h) in
+      let last = newest rn n d.resources number fresh.1 in
       tree_named (resource n) kind.Resource d.resources (rn ++ (n ∷ [])) (events_of os) (with_resources d (d.resources + 1)) refl refl (λ m. refl) (λ m. refl)
-      (resources_app os o) (events_app os o ∙ append-nil (events_of os)) (ext_more n rn) (ext_same n (events_of os)) ((length (names_of os), at_new (names_of os) n), at, only, fresh.2)
+      (resources_app os o) (events_app os o ∙ append-nil (events_of os)) (ext_more n rn) (ext_same n (events_of os)) ((length (names_of os), at_new (names_of os) n), last.0, last.1, fresh.2)
       (drawn_with x (omega arith) x.same_events (omega arith) x.few_events (vecs_declare rn (λ m. users_of m os) d.users n fresh.1 x.users) x.registered)
 
   pub tree_event : (d.events ≡ 32 → ⊥) → Tree (os ++ (event n ∷ [])) (with_events d (d.events + 1)) (record { name = n; kind = kind.Event; number = d.events } ∷ es)
@@ -121,10 +120,9 @@ module _ {os : List Object} {d : Draft} {es : List Entry} (t : Tree os d es) (n 
       let number = x.same_events in
       let a = x.few_events in
       let sized = length-append en (n ∷ []) in
-      let at = subst (λ i. At (en ++ (n ∷ [])) i n) (sym number) (at_new en n) in
-      let only : (j : ℕ) → At (en ++ (n ∷ [])) j n → j ≡ d.events = λ j h. ⊎_elim (λ old. absurd (fresh.2 (j, old))) (λ new. new.0 ∙ sym number) (at_split en n j n h) in
+      let last = newest en n d.events number fresh.2 in
       tree_named (event n) kind.Event d.events (resources_of os) (en ++ (n ∷ [])) (with_events d (d.events + 1)) refl refl (λ m. refl) (λ m. refl)
-      (resources_app os o ∙ append-nil (resources_of os)) (events_app os o) (ext_same n (resources_of os)) (ext_more n en) ((length (names_of os), at_new (names_of os) n), at, only, fresh.1)
+      (resources_app os o ∙ append-nil (resources_of os)) (events_app os o) (ext_same n (resources_of os)) (ext_more n en) ((length (names_of os), at_new (names_of os) n), last.0, last.1, fresh.1)
       (drawn_with x x.same_resources (omega arith) x.few_resources (omega arith) x.users (vecs_declare en (λ m. registered_of m os) d.registered n fresh.2 x.registered))
 
   -- the name of a task, before its priority

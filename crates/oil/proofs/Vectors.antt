@@ -42,6 +42,10 @@ module _ {X : Type 0} where
   pub in_split : (xs : List X) (y x : X) → In (xs ++ (y ∷ [])) x → In xs x ⊎ (y ≡ x)
   in_split xs y x h = ⊎_elim (λ a. inl (h.0, a)) (λ b. inr b.1) (at_split xs y h.0 x h.1)
 
+-- what comes new stands at the end, and nowhere else
+pub newest : {X : Type 0} (xs : List X) (y : X) (i : ℕ) → i ≡ length xs → (In xs y → ⊥) → At (xs ++ (y ∷ [])) i y × ((j : ℕ) → At (xs ++ (y ∷ [])) j y → j ≡ i)
+newest xs y i e new = (subst (λ k. At (xs ++ (y ∷ [])) k y) (sym e) (at_new xs y), λ j h. ⊎_elim (λ old. absurd (new (j, old))) (λ b. b.0 ∙ sym e) (at_split xs y j y h))
+
 pub vector_none : VectorOf [] 0
 vector_none = record { fits = omega arith; there = λ k h. absurd h.1; only = λ k h. absurd (both_ways (in_vector 0 k) (in_none k) h) }
 
