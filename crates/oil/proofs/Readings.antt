@@ -1,5 +1,5 @@
 -- A text of some objects is read exactly if they are allowed, and then to their plan.
-use Rattle.std.proofs.Common.{◌≡◌, ℕ, ◌+◌, ◌-◌, ◌^◌, ◌<◌, ◌≤◌, Bool, true, false, cond, eqb, List, [], ◌∷◌, ◌++◌, length, Some, None, Ok, Err, codes, sym, refl, ap, ◌∙◌, subst, append_assoc, append-nil, arith, length-append, MatchResult}
+use Rattle.std.proofs.Common.{◌≡◌, ℕ, ◌+◌, ◌-◌, ◌^◌, ◌<◌, ◌≤◌, Bool, true, false, cond, eqb, List, [], ◌∷◌, ◌++◌, length, Some, None, Ok, Err, sym, refl, ap, ◌∙◌, subst, append_assoc, append-nil, arith, length-append, MatchResult}
 use Rattle.std.proofs.lemmas.Bool.{cond_both, eqb-true, eqb-false, both_ways}
 use Rattle.std.specs.Str.{bytes_eq}
 use Rattle.vectors.specs.Vectors.{in_vector}
@@ -21,7 +21,7 @@ use Rattle.grammar.proofs.Complete.{kind_bytes, scan_room, fixed_back, numeral_b
 use Rattle.oil.specs.declared.draft.Draft.{Draft}
 use Rattle.oil.specs.declared.fault.PlanCause.TheVariants as cause
 use Rattle.oil.specs.Faults.{refusal}
-use Rattle.oil.specs.Draft.{Drafted, added, with_resources, with_events, with_tasks, next_number}
+use Rattle.oil.specs.Draft.{Drafted, with_resources, with_events, with_tasks, next_number}
 use Rattle.oil.specs.Reading.{Entry, look_up, gathered}
 use Rattle.oil.specs.Meaning.{At, In, names_of, resources_of, events_of, priorities_of, AllEarlier, uses_in, awaits_in, users_of, registered_of, VectorOf, RowsOf}
 use Rattle.oil.proofs.Vectors.{vector_none, vector_same, taken_out}

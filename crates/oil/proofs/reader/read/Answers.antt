@@ -11,7 +11,7 @@ pub returns-in_err-draft-clause-meaning : goal.returns-in_err-draft-clause-meani
 returns-in_err-draft-clause-meaning c =
     understood_by c.args.text.now (length c.args.names.now) c.args.plan.now c.args.plan.now c.from_residual.result (search rules) (search rules)
 
--- each return has a goal of its own: by a lemma over what the paths share it was no shorter
+-- by one lemma it was tried: the three returns share no record that it could be over
 pub returns-in_err-draft-clause-bound : goal.returns-in_err-draft-clause-bound
 returns-in_err-draft-clause-bound c = bound_free c.args.text.now
 
