@@ -1,8 +1,6 @@
 -- The grammar takes only texts that some objects have.
-use Rattle.std.proofs.Common.{◌≡◌, ℕ, Bool, true, false, cond, List, [], ◌∷◌, ◌++◌, Some, None, Ok, Err, codes, Option, sym, refl, ap, ◌∙◌, subst, ⊎_elim, arith}
+use Rattle.std.proofs.Common.{◌≡◌, ℕ, true, false, cond, List, [], ◌∷◌, ◌++◌, Some, None, Ok, Err, codes, Option, sym, refl, ap, ◌∙◌, subst, ⊎_elim, arith}
 use Rattle.std.proofs.lemmas.Bool.{false≢true, cases_Bool, cond-true, cond-false}
-use Rattle.letters.specs.declared.token.What.{What}
-use Rattle.letters.specs.declared.token.What.TheVariants as what
 use Rattle.letters.specs.declared.token.Token.{Token}
 use Rattle.grammar.specs.declared.slot.Slot.{Slot}
 use Rattle.grammar.specs.declared.slot.Slot.TheVariants as slot
@@ -11,16 +9,15 @@ use Rattle.grammar.specs.declared.item.Kind.{Kind}
 use Rattle.grammar.specs.declared.item.Kind.TheVariants as kind
 use Rattle.grammar.specs.declared.item.State.{State}
 use Rattle.grammar.specs.declared.item.State.TheVariants as state
-use Rattle.grammar.specs.declared.item.Item.{Item}
 use Rattle.grammar.specs.declared.item.Item.TheVariants as item
 use Rattle.grammar.specs.declared.item.Step.{Step}
 use Rattle.letters.specs.declared.token.Mark.TheVariants as marks
-use Rattle.letters.specs.Tokens.{token_at, bytes_of, is_name, is_end}
+use Rattle.letters.specs.Tokens.{token_at, bytes_of, is_end}
 use Rattle.grammar.specs.Faults.{and_then, misplaced}
 use Rattle.grammar.specs.Slots.{lexed, spelt, admits, expected, followed}
 use Rattle.grammar.specs.Items.{if_name, named, if_number, numeral_at, heading, template, step, declared_at, object_at, referred_at, reference_at, attribute_at, judged_at, item_at}
-use Rattle.grammar.proofs.Through.{fit, through, lexed_ok, tested}
-use Rattle.grammar.specs.Language.{Sign, word, num, str, mark, sign_by, sign_of, Scan, stop, reads, AtEnd, Spells, Reference, uses, awaits, Object, resource, event, task, reference, references, resource_rest, event_rest, activation_rest, priority_rest, task_rest, objects, unparse, Run, ends, goes}
+use Rattle.grammar.proofs.Through.{fit_name, fit, through, lexed_ok, tested, as_name, as_numeral, is_last}
+use Rattle.grammar.specs.Language.{Sign, word, num, str, mark, sign_of, Scan, stop, reads, AtEnd, Spells, Reference, uses, awaits, Object, resource, event, task, reference, references, resource_rest, event_rest, activation_rest, priority_rest, task_rest, objects, unparse, Run, ends, goes}
 
 abbrev pub slot_sign : Slot → Sign
 slot_sign (slot.Word w) = word (spelt w)
@@ -71,40 +68,17 @@ module _ (text : List ℕ) where
       let x = through (expected text s pos) (λ r. followed text ss r) p h in
       one_scan s pos x.0 f.0 x.1 (signs_then ss us) q (fixed_scan ss x.0 p f.1 x.2 us q sc)
 
-  as_name : (t u : Token) (x : What) → if_name t x ≡ Ok u → (t ≡ u) × (is_name x ≡ true)
-  as_name t u what.Name h = (cc, refl)
-  as_name t u (what.Number n) h = let z : ◌≡◌ {A = ℕ} 0 1 = cc in absurd (omega arith)
-  as_name t u what.Quoted h = let z : ◌≡◌ {A = ℕ} 0 1 = cc in absurd (omega arith)
-  as_name t u (what.Mark c) h = let z : ◌≡◌ {A = ℕ} 0 1 = cc in absurd (omega arith)
-  as_name t u what.End h = let z : ◌≡◌ {A = ℕ} 0 1 = cc in absurd (omega arith)
-
-  name_sign : (bytes : List ℕ) (x : What) → is_name x ≡ true → (is_end x ≡ false) × (sign_by bytes x ≡ word bytes)
-  name_sign bytes what.Name h = (refl, refl)
-  name_sign bytes (what.Number n) h = absurd (false≢true h)
-  name_sign bytes what.Quoted h = absurd (false≢true h)
-  name_sign bytes (what.Mark c) h = absurd (false≢true h)
-  name_sign bytes what.End h = absurd (false≢true h)
-
   named_scan : (pos : ℕ) (u : Token) → named text pos ≡ Ok u → (us : List Sign) (q : ℕ) → Scan text u.end us q → Scan text pos (word (bytes_of text u) ∷ us) q
   named_scan pos u h us q sc =
       let x = through (lexed text pos) (λ t. if_name t t.what) u h in
       let y = as_name x.0 u x.0.what x.2 in
-      let z = name_sign (bytes_of text x.0) x.0.what y.1 in
+      let z = fit_name (bytes_of text x.0) x.0.what y.2 in
       before pos u.end x.0 (word (bytes_of text u)) us q x.1 z.0 (z.1 ∙ ap (λ t. word (bytes_of text t)) y.0) (ap (λ (t : Token). t.end) y.0) sc
-
-  as_numeral : (bytes : List ℕ) (t u : Token) (n : ℕ) (x : What) → if_number t x ≡ Ok (n, u) → (t ≡ u) × (is_end x ≡ false) × (sign_by bytes x ≡ num n)
-  as_numeral bytes t u n (what.Number m) h =
-      let e : ◌≡◌ {A = ℕ × Token} (m, t) (n, u) = cc in
-      (ap (λ (p : ℕ × Token). p.1) e, refl, ap (λ (p : ℕ × Token). num p.0) e)
-  as_numeral bytes t u n what.Name h = let z : ◌≡◌ {A = ℕ} 0 1 = cc in absurd (omega arith)
-  as_numeral bytes t u n what.Quoted h = let z : ◌≡◌ {A = ℕ} 0 1 = cc in absurd (omega arith)
-  as_numeral bytes t u n (what.Mark c) h = let z : ◌≡◌ {A = ℕ} 0 1 = cc in absurd (omega arith)
-  as_numeral bytes t u n what.End h = let z : ◌≡◌ {A = ℕ} 0 1 = cc in absurd (omega arith)
 
   numeral_scan : (pos n : ℕ) (u : Token) → numeral_at text pos ≡ Ok (n, u) → (us : List Sign) (q : ℕ) → Scan text u.end us q → Scan text pos (num n ∷ us) q
   numeral_scan pos n u h us q sc =
       let x = through (lexed text pos) (λ t. if_number t t.what) (n, u) h in
-      let y = as_numeral (bytes_of text x.0) x.0 u n x.0.what x.2 in
+      let y = as_numeral (bytes_of text x.0) x.0 (n, u) x.0.what x.2 in
       before pos u.end x.0 (num n) us q x.1 y.1 y.2 (ap (λ (t : Token). t.end) y.0) sc
 
   kind_word : Kind → Sign
@@ -233,16 +207,8 @@ module _ (text : List ℕ) where
   abbrev Later : Step → Type 0
   Later st = (st.item ≡ item.End → ⊥) → Rest st.state st.pos
 
-  is_last : Item → Bool
-  is_last (item.Declares k t) = false
-  is_last (item.Priority n t) = false
-  is_last (item.Activation n t) = false
-  is_last (item.Refers k t) = false
-  is_last item.Closes = false
-  is_last item.End = true
-
   objects_at : (pos : ℕ) (st : Step) → ObjectStep pos st → Later st → ObjectsAt pos
-  unfolding kind_word is_last
+  unfolding kind_word
   objects_at pos st (closes p q sc at) later = ([], (q, sc, at))
   objects_at pos st (opens kind.Resource n sc) later =
       let r = later (λ e. absurd (false≢true (ap is_last e))) in
@@ -255,7 +221,6 @@ module _ (text : List ℕ) where
       (task (bytes_of text n) r.0 r.1 r.2 ∷ r.3, (r.4.0, sc (task_rest r.0 r.1 (references r.2 (objects r.3))) r.4.0 r.4.1, r.4.2))
 
   references_at : (pos : ℕ) (st : Step) → AttributeStep pos st → Later st → ReferencesAt pos
-  unfolding is_last
   references_at pos st (closes_task p sc) later =
       let r = later (λ e. absurd (false≢true (ap is_last e))) in
       ([], r.0, (r.1.0, sc (mark marks.Semicolon ∷ objects r.0) r.1.0 r.1.1, r.1.2))
@@ -274,7 +239,7 @@ module _ (text : List ℕ) where
   any_scan pos p h =
       let x = through (lexed text pos) (λ t. cond (admits text slot.AnyName t) (Ok t.end) (Err (misplaced t.place))) p h in
       let y = tested (admits text slot.AnyName x.0) x.0.end p (misplaced x.0.place) x.2 in
-      let z = name_sign (bytes_of text x.0) x.0.what y.0 in
+      let z = fit_name (bytes_of text x.0) x.0.what y.0 in
       (bytes_of text x.0, λ us q sc. before pos p x.0 (word (bytes_of text x.0)) us q x.1 z.0 z.1 y.1 sc)
 
   -- what came after the template of a state
@@ -282,7 +247,6 @@ module _ (text : List ℕ) where
   judged s pos st h = through (followed text (template s) pos) (λ p. judged_at text s p) st h
 
   fold : (s : State) (pos : ℕ) (st : Step) → item_at text s pos ≡ Ok st → Later st → Rest s pos
-  unfolding is_last
   fold state.Start pos st h later =
       let j = judged state.Start pos st h in
       let o = objects_at j.0 st (object_step j.0 st j.2) later in

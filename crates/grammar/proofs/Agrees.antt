@@ -2,8 +2,6 @@
 use Rattle.std.proofs.Common.{◌≡◌, ℕ, ◌+◌, ◌≤◌, Bool, true, false, cond, ◌&&◌, ◌⊎◌, List, [], ◌∷◌, drop, Some, None, Ok, Err, Option, Result, refl, ap, ◌∙◌, subst, inl, inr, ⊎_elim, arith, MatchResult}
 use Rattle.std.proofs.lemmas.Bool.{cond_both}
 use Rattle.std.specs.Str.{bytes_eq}
-use Rattle.letters.specs.declared.token.What.{What}
-use Rattle.letters.specs.declared.token.What.TheVariants as what
 use Rattle.letters.specs.declared.token.Token.{Token}
 use Rattle.grammar.specs.declared.fault.GrammarFault.{GrammarFault}
 use Rattle.grammar.specs.declared.slot.Slot.{Slot}
@@ -23,6 +21,7 @@ use Rattle.grammar.specs.Slots.{spelt, lexed, admits, expected, followed}
 use Rattle.grammar.specs.Items.{if_name, named, if_number, numeral_at, heading, template, step, declared_at, object_at, referred_at, reference_at, attribute_at, judged_at, item_at}
 use Rattle.letters.specs.Extents.{end_from, place_from}
 use Rattle.letters.proofs.Near.{Near}
+use Rattle.grammar.proofs.Through.{name_both, number_both}
 use Rattle.letters.proofs.Local.{lex_near, bytes_near, Whole, lex_whole, Ends, ends_token}
 
 module _ (text other : List ℕ) (high : ℕ) (near : Near high text other) where
@@ -107,28 +106,14 @@ module _ (text other : List ℕ) (high : ℕ) (near : Near high text other) wher
   abbrev token_end : Token → ℕ
   token_end t = t.end
 
-  as_name : (t : Token) (x : What) → Fits token_end t (if_name t x) (if_name t x)
-  as_name t what.Name = (omega arith, λ _. refl)
-  as_name t (what.Number n) = (inl refl, λ _. refl)
-  as_name t what.Quoted = (inl refl, λ _. refl)
-  as_name t (what.Mark c) = (inl refl, λ _. refl)
-  as_name t what.End = (inl refl, λ _. refl)
-
   named_agrees : (pos : ℕ) → Agrees token_end pos (named text pos) (named other pos)
-  named_agrees pos = token_then token_end pos (λ t. if_name t t.what) (λ t. if_name t t.what) (λ t w. as_name t t.what)
+  named_agrees pos = token_then token_end pos (λ t. if_name t t.what) (λ t. if_name t t.what) (λ t w. name_both (λ r. Fits token_end t r r) t t.what (omega arith, λ _. refl) (inl refl, λ _. refl))
 
   abbrev numeral_end : ℕ × Token → ℕ
   numeral_end p = p.1.end
 
-  as_numeral : (t : Token) (x : What) → Fits numeral_end t (if_number t x) (if_number t x)
-  as_numeral t what.Name = (inl refl, λ _. refl)
-  as_numeral t (what.Number n) = (omega arith, λ _. refl)
-  as_numeral t what.Quoted = (inl refl, λ _. refl)
-  as_numeral t (what.Mark c) = (inl refl, λ _. refl)
-  as_numeral t what.End = (inl refl, λ _. refl)
-
   numeral_agrees : (pos : ℕ) → Agrees numeral_end pos (numeral_at text pos) (numeral_at other pos)
-  numeral_agrees pos = token_then numeral_end pos (λ t. if_number t t.what) (λ t. if_number t t.what) (λ t w. as_numeral t t.what)
+  numeral_agrees pos = token_then numeral_end pos (λ t. if_number t t.what) (λ t. if_number t t.what) (λ t w. number_both (λ r. Fits numeral_end t r r) t t.what (λ n. (omega arith, λ _. refl)) (inl refl, λ _. refl))
 
   pub heading_near : (t : Token) → Whole text t → t.end ≤ high → heading other t ≡ heading text t
   heading_near t w l =

@@ -2,7 +2,6 @@
 use Rattle.std.proofs.Common.{◌≡◌, ℕ, ◌+◌, ◌≤◌, Bool, true, false, cond, ◌⊎◌, List, [], ◌∷◌, length, take, drop, Some, None, Ok, Err, Option, Result, sym, refl, ap, ◌∙◌, subst, inl, inr, ⊎_elim, arith, MatchResult}
 use Rattle.std.proofs.lemmas.Bool.{cond_both}
 use Rattle.letters.specs.declared.token.Mark.TheVariants as marks
-use Rattle.letters.specs.declared.token.What.{What}
 use Rattle.letters.specs.declared.token.What.TheVariants as what
 use Rattle.letters.specs.declared.token.Token.{Token}
 use Rattle.letters.specs.Blanks.{blanks}
@@ -24,7 +23,7 @@ use Rattle.grammar.specs.declared.item.Step.{Step}
 use Rattle.grammar.specs.Faults.{and_then, misplaced, lifted}
 use Rattle.grammar.specs.Slots.{lexed, admits, expected, followed}
 use Rattle.grammar.specs.Items.{if_name, named, if_number, numeral_at, heading, template, step, declared_at, object_at, referred_at, reference_at, attribute_at, judged_at, item_at}
-use Rattle.grammar.proofs.Through.{NoEnd}
+use Rattle.grammar.proofs.Through.{NoEnd, name_both, number_both}
 use Rattle.grammar.proofs.Agrees.{admits_near, heading_near}
 
 -- where the token stands that an item has judged
@@ -193,15 +192,8 @@ module _ (text : List ℕ) (q : ℕ) where
   abbrev its_place : Token → Type 0
   its_place t = t.place ≡ q
 
-  as_name : (t : Token) (x : What) → Fits Plain its_place token_end t (if_name t x) (if_name t x)
-  as_name t what.Name = (omega arith, (λ l. l), (λ _. refl), (λ j. inl j))
-  as_name t (what.Number n) = inl refl
-  as_name t what.Quoted = inl refl
-  as_name t (what.Mark c) = inl refl
-  as_name t what.End = inl refl
-
   named_cuts : (pos : ℕ) → Cuts Plain its_place token_end pos (named text pos) (named cut pos)
-  named_cuts pos = token_cuts Plain its_place token_end pos (λ t. if_name t t.what) (λ t. if_name t t.what) refl (λ t w. as_name t t.what)
+  named_cuts pos = token_cuts Plain its_place token_end pos (λ t. if_name t t.what) (λ t. if_name t t.what) refl (λ t w. name_both (λ r. Fits Plain its_place token_end t r r) t t.what (omega arith, (λ l. l), (λ _. refl), (λ j. inl j)) (inl refl))
 
   abbrev numeral_end : ℕ × Token → ℕ
   numeral_end p = p.1.end
@@ -209,15 +201,8 @@ module _ (text : List ℕ) (q : ℕ) where
   abbrev numeral_place : ℕ × Token → Type 0
   numeral_place p = p.1.place ≡ q
 
-  as_numeral : (t : Token) (x : What) → Fits Plain numeral_place numeral_end t (if_number t x) (if_number t x)
-  as_numeral t what.Name = inl refl
-  as_numeral t (what.Number n) = (omega arith, (λ l. l), (λ _. refl), (λ j. inl j))
-  as_numeral t what.Quoted = inl refl
-  as_numeral t (what.Mark c) = inl refl
-  as_numeral t what.End = inl refl
-
   numeral_cuts : (pos : ℕ) → Cuts Plain numeral_place numeral_end pos (numeral_at text pos) (numeral_at cut pos)
-  numeral_cuts pos = token_cuts Plain numeral_place numeral_end pos (λ t. if_number t t.what) (λ t. if_number t t.what) refl (λ t w. as_numeral t t.what)
+  numeral_cuts pos = token_cuts Plain numeral_place numeral_end pos (λ t. if_number t t.what) (λ t. if_number t t.what) refl (λ t w. number_both (λ r. Fits Plain numeral_place numeral_end t r r) t t.what (λ n. (omega arith, (λ l. l), (λ _. refl), (λ j. inl j))) (inl refl))
 
   abbrev step_end : Step → ℕ
   step_end st = st.pos

@@ -1,8 +1,6 @@
 -- How an item stands in its text.
-use Rattle.std.proofs.Common.{◌≡◌, ℕ, zero, suc, ◌<◌, ◌≤◌, true, false, cond, List, [], ◌∷◌, length, Some, None, Ok, Option, sym, refl, ap, ◌∙◌, subst, ⊎_elim, arith}
-use Rattle.std.proofs.lemmas.Bool.{cases_Bool, cond-true, cond-false, false≢true}
-use Rattle.letters.specs.declared.token.What.{What}
-use Rattle.letters.specs.declared.token.What.TheVariants as what
+use Rattle.std.proofs.Common.{◌≡◌, ℕ, zero, suc, ◌<◌, ◌≤◌, false, cond, List, [], ◌∷◌, length, Some, None, Ok, Option, sym, refl, ap, ◌∙◌, subst, ⊎_elim, arith}
+use Rattle.std.proofs.lemmas.Bool.{cases_Bool, cond-true, cond-false}
 use Rattle.letters.specs.declared.token.Token.{Token}
 use Rattle.grammar.specs.declared.slot.Slot.{Slot}
 use Rattle.grammar.specs.declared.slot.Slot.TheVariants as slot
@@ -12,14 +10,13 @@ use Rattle.grammar.specs.declared.item.State.{State}
 use Rattle.grammar.specs.declared.item.State.TheVariants as state
 use Rattle.grammar.specs.declared.item.Item.TheVariants as item
 use Rattle.grammar.specs.declared.item.Step.{Step}
-use Rattle.letters.specs.declared.token.Mark.{Mark}
 use Rattle.letters.specs.declared.token.Mark.TheVariants as marks
-use Rattle.letters.specs.Tokens.{is_mark, token_at, bytes_of, is_name, is_end}
+use Rattle.letters.specs.Tokens.{token_at, bytes_of, is_end}
 use Rattle.grammar.specs.Faults.{and_then}
 use Rattle.grammar.specs.Slots.{lexed, admits, expected, followed}
 use Rattle.grammar.specs.Items.{if_name, named, if_number, numeral_at, heading, template, step, declared_at, object_at, referred_at, reference_at, attribute_at, judged_at, item_at}
 use Rattle.letters.specs.Extents.{end_from}
-use Rattle.grammar.proofs.Through.{through, lexed_ok}
+use Rattle.grammar.proofs.Through.{fit, through, lexed_ok, as_name, as_numeral}
 use Rattle.letters.proofs.Named.{Named, lex_goes}
 use Rattle.letters.proofs.Near.{Near}
 use Rattle.letters.proofs.Local.{lex_whole}
@@ -44,13 +41,6 @@ module _ (text : List ℕ) where
       let g = (lex_goes text pos t l).1 e in
       (w.1.0, w.1.1, w.0, g.0, g.1)
 
-  as_name : (t u : Token) (x : What) → if_name t x ≡ Ok u → (t ≡ u) × (is_end x ≡ false) × (is_name x ≡ true)
-  as_name t u what.Name h = (cc, refl, refl)
-  as_name t u (what.Number n) h = let z : ◌≡◌ {A = ℕ} 0 1 = cc in absurd (omega arith)
-  as_name t u what.Quoted h = let z : ◌≡◌ {A = ℕ} 0 1 = cc in absurd (omega arith)
-  as_name t u (what.Mark c) h = let z : ◌≡◌ {A = ℕ} 0 1 = cc in absurd (omega arith)
-  as_name t u what.End h = let z : ◌≡◌ {A = ℕ} 0 1 = cc in absurd (omega arith)
-
   named_sits : (pos : ℕ) (u : Token) → named text pos ≡ Ok u → Sits pos u × Named (bytes_of text u)
   named_sits pos u h =
       let x = through (lexed text pos) (λ t. if_name t t.what) u h in
@@ -58,19 +48,10 @@ module _ (text : List ℕ) where
       let z = (lex_goes text pos x.0 (lexed_ok (token_at text pos) x.0 x.1)).2 y.2 in
       (subst (Sits pos) y.0 (sits pos x.0 x.1 y.1), subst (λ t. Named (bytes_of text t)) y.0 z)
 
-  as_numeral : (t : Token) (u : ℕ × Token) (x : What) → if_number t x ≡ Ok u → (t ≡ u.1) × (is_end x ≡ false)
-  as_numeral t u (what.Number m) h =
-      let e : ◌≡◌ {A = ℕ × Token} (m, t) u = cc in
-      (ap (λ (p : ℕ × Token). p.1) e, refl)
-  as_numeral t u what.Name h = let z : ◌≡◌ {A = ℕ} 0 1 = cc in absurd (omega arith)
-  as_numeral t u what.Quoted h = let z : ◌≡◌ {A = ℕ} 0 1 = cc in absurd (omega arith)
-  as_numeral t u (what.Mark c) h = let z : ◌≡◌ {A = ℕ} 0 1 = cc in absurd (omega arith)
-  as_numeral t u what.End h = let z : ◌≡◌ {A = ℕ} 0 1 = cc in absurd (omega arith)
-
   numeral_sits : (pos : ℕ) (u : ℕ × Token) → numeral_at text pos ≡ Ok u → Sits pos u.1
   numeral_sits pos u h =
       let x = through (lexed text pos) (λ t. if_number t t.what) u h in
-      let y = as_numeral x.0 u x.0.what x.2 in
+      let y = as_numeral (bytes_of text x.0) x.0 u x.0.what x.2 in
       subst (Sits pos) y.0 (sits pos x.0 x.1 y.1)
 
   followed_on : (ss : List Slot) (pos p : ℕ) → followed text ss pos ≡ Ok p → pos ≤ p
@@ -125,13 +106,6 @@ module _ (text : List ℕ) where
       (λ n. declared_sits p t (heading text t) st (lex_up p t x.1) (sym (cond-false (admits text (slot.Mark marks.Close) t) closing opening n) ∙ x.2))
       (cases_Bool (admits text (slot.Mark marks.Close) t))
 
-  sign_more : (x : What) (c : Mark) → is_mark c x ≡ true → is_end x ≡ false
-  sign_more what.Name c h = refl
-  sign_more (what.Number n) c h = refl
-  sign_more what.Quoted c h = refl
-  sign_more (what.Mark m) c h = refl
-  sign_more what.End c h = absurd (false≢true h)
-
   referred_sits : (p : ℕ) (t : Token) (k : Kind) (st : Step) → p ≤ t.end → referred_at text t k ≡ Ok st → StepSits p st
   referred_sits p t k st l h =
       let x = through (expected text (slot.Mark marks.Equals) t.end) (λ q. and_then (named text q) (λ n. step (item.Refers k n) state.Referred n.end)) st h in
@@ -156,7 +130,7 @@ module _ (text : List ℕ) where
       (λ y.
       let c : closing ≡ Ok st = sym (cond-true (admits text (slot.Mark marks.Close) t) closing opening y) ∙ x.2 in
       let e : record { item = item.Closes; state = state.Closed; pos = t.end } ≡ st = cc in
-      let s = sits p t x.1 (sign_more t.what marks.Close y) in
+      let s = sits p t x.1 (fit text (slot.Mark marks.Close) t tt y).0 in
       subst (λ z. StepSits p z) e (s.3, s.4))
       (λ n. reference_sits p t (heading text t) st (lex_up p t x.1) (sym (cond-false (admits text (slot.Mark marks.Close) t) closing opening n) ∙ x.2))
       (cases_Bool (admits text (slot.Mark marks.Close) t))

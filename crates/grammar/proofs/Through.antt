@@ -11,10 +11,14 @@ use Rattle.letters.specs.declared.token.Token.{Token}
 use Rattle.grammar.specs.declared.slot.Slot.{Slot}
 use Rattle.grammar.specs.declared.slot.Slot.TheVariants as slot
 use Rattle.grammar.specs.declared.word.Word.{Word}
+use Rattle.grammar.specs.declared.fault.GrammarFault.{GrammarFault}
+use Rattle.grammar.specs.declared.item.Item.{Item}
+use Rattle.grammar.specs.declared.item.Item.TheVariants as item
 use Rattle.letters.specs.Tokens.{same_mark, Lexed, bytes_of, is_name, is_quoted, is_mark, is_end}
-use Rattle.grammar.specs.Faults.{and_then, lifted}
+use Rattle.grammar.specs.Faults.{and_then, misplaced, lifted}
 use Rattle.grammar.specs.Slots.{spelt, admits}
-use Rattle.grammar.specs.Language.{Sign, word, str, mark, sign_by, sign_of}
+use Rattle.grammar.specs.Items.{if_name, if_number}
+use Rattle.grammar.specs.Language.{Sign, word, num, str, mark, sign_by, sign_of}
 
 -- a sign that may stand at the slot
 abbrev pub Fit : Slot → Sign → Type 0
@@ -65,7 +69,7 @@ fit_mark bytes m what.Quoted h = absurd (false≢true h)
 fit_mark bytes m (what.Mark c) h = (refl, ap mark (sym (mark_true m c h)))
 fit_mark bytes m what.End h = absurd (false≢true h)
 
-fit_name : (bytes : List ℕ) (x : What) → is_name x ≡ true → (is_end x ≡ false) × (sign_by bytes x ≡ word bytes)
+pub fit_name : (bytes : List ℕ) (x : What) → is_name x ≡ true → (is_end x ≡ false) × (sign_by bytes x ≡ word bytes)
 fit_name bytes what.Name h = (refl, refl)
 fit_name bytes (what.Number n) h = absurd (false≢true h)
 fit_name bytes what.Quoted h = absurd (false≢true h)
@@ -99,3 +103,46 @@ lexed_ok (Err f) t h = let z : ◌≡◌ {A = ℕ} 0 1 = cc in absurd (omega ari
 pub tested : {A E : Type 0} (b : Bool) (x y : A) (e : E) → cond b (Ok x) (Err e) ≡ Ok y → (b ≡ true) × (x ≡ y)
 tested true x y e h = (refl, cc)
 tested false x y e h = let z : ◌≡◌ {A = ℕ} 0 1 = cc in absurd (omega arith)
+
+-- a token that was taken as a name
+pub as_name : (t u : Token) (x : What) → if_name t x ≡ Ok u → (t ≡ u) × (is_end x ≡ false) × (is_name x ≡ true)
+as_name t u what.Name h = (cc, refl, refl)
+as_name t u (what.Number n) h = let z : ◌≡◌ {A = ℕ} 0 1 = cc in absurd (omega arith)
+as_name t u what.Quoted h = let z : ◌≡◌ {A = ℕ} 0 1 = cc in absurd (omega arith)
+as_name t u (what.Mark c) h = let z : ◌≡◌ {A = ℕ} 0 1 = cc in absurd (omega arith)
+as_name t u what.End h = let z : ◌≡◌ {A = ℕ} 0 1 = cc in absurd (omega arith)
+
+-- .. or as a numeral
+pub as_numeral : (bytes : List ℕ) (t : Token) (u : ℕ × Token) (x : What) → if_number t x ≡ Ok u → (t ≡ u.1) × (is_end x ≡ false) × (sign_by bytes x ≡ num u.0)
+as_numeral bytes t u (what.Number m) h =
+    let e : ◌≡◌ {A = ℕ × Token} (m, t) u = cc in
+    (ap (λ (p : ℕ × Token). p.1) e, refl, ap (λ (p : ℕ × Token). num p.0) e)
+as_numeral bytes t u what.Name h = let z : ◌≡◌ {A = ℕ} 0 1 = cc in absurd (omega arith)
+as_numeral bytes t u what.Quoted h = let z : ◌≡◌ {A = ℕ} 0 1 = cc in absurd (omega arith)
+as_numeral bytes t u (what.Mark c) h = let z : ◌≡◌ {A = ℕ} 0 1 = cc in absurd (omega arith)
+as_numeral bytes t u what.End h = let z : ◌≡◌ {A = ℕ} 0 1 = cc in absurd (omega arith)
+
+-- what holds of both answers to a token holds where a name is asked
+pub name_both : (P : Result Token GrammarFault → Type 0) (t : Token) (x : What) → P (Ok t) → P (Err (misplaced t.place)) → P (if_name t x)
+name_both P t what.Name good bad = good
+name_both P t (what.Number n) good bad = bad
+name_both P t what.Quoted good bad = bad
+name_both P t (what.Mark c) good bad = bad
+name_both P t what.End good bad = bad
+
+-- .. or a numeral
+pub number_both : (P : Result (ℕ × Token) GrammarFault → Type 0) (t : Token) (x : What) → ((n : ℕ) → P (Ok (n, t))) → P (Err (misplaced t.place)) → P (if_number t x)
+number_both P t what.Name good bad = bad
+number_both P t (what.Number n) good bad = good n
+number_both P t what.Quoted good bad = bad
+number_both P t (what.Mark c) good bad = bad
+number_both P t what.End good bad = bad
+
+-- the item that ends a text
+abbrev pub is_last : Item → Bool
+is_last (item.Declares k t) = false
+is_last (item.Priority n t) = false
+is_last (item.Activation n t) = false
+is_last (item.Refers k t) = false
+is_last item.Closes = false
+is_last item.End = true

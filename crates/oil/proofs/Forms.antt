@@ -1,7 +1,7 @@
 -- A tree is well formed exactly if each of its objects is allowed after those before it.
 use Rattle.std.proofs.Common.{◌≡◌, ℕ, zero, suc, ◌<◌, ◌≤◌, List, [], ◌∷◌, ◌++◌, length, sym, refl, ap, ◌∙◌, subst, ⊎_elim, append_assoc, append-nil, arith, length-append}
 use Rattle.grammar.specs.Language.{Reference, Object, resource, event, task}
-use Rattle.oil.specs.Meaning.{At, In, Distinct, names_of, resources_of, events_of, priorities_of, activations_of, Grounded, WellFormed}
+use Rattle.oil.specs.Meaning.{At, In, Distinct, name_of, names_of, resources_of, events_of, priorities_of, activations_of, Grounded, WellFormed}
 use Rattle.oil.proofs.Vectors.{at_split, at_low, in_split}
 use Rattle.oil.proofs.Judged.{names_app, resources_app, events_app, priorities_app, activations_app, Allowed, AllowedFrom, joined}
 
@@ -46,43 +46,39 @@ record Formed (os : List Object) : Type 0 where
   few_events : length (events_of os) ≤ 32
   few_tasks : length (priorities_of os) ≤ 64
 
--- the lists of a tree with one object more
-module _ (os : List Object) (n : List ℕ) where
-  formed_resource : Formed os → Allowed os (resource n) → Formed (os ++ (resource n ∷ []))
-  formed_resource f a =
+-- a tree with a resource or an event more, which has a name, and no priority
+formed_named : (os : List Object) (o : Object) → priorities_of (o ∷ []) ≡ [] → activations_of (o ∷ []) ≡ [] → (In (names_of os) (name_of o) → ⊥) → length (resources_of (os ++ (o ∷ []))) ≤ 32 → length (events_of (os ++ (o ∷ []))) ≤ 32 → Formed os → Formed (os ++ (o ∷ []))
+formed_named os o no_priority no_activation new rs es f =
+    let ep = priorities_app os (o ∷ []) ∙ ap (λ l. priorities_of os ++ l) no_priority ∙ append-nil (priorities_of os) in
+    let ea = activations_app os (o ∷ []) ∙ ap (λ l. activations_of os ++ l) no_activation ∙ append-nil (activations_of os) in
+    record {
+      names_differ = subst (λ l. Distinct l) (sym (names_app os (o ∷ []))) (distinct_more (names_of os) (name_of o) f.names_differ new);
+      priorities_differ = subst (λ l. Distinct l) (sym ep) f.priorities_differ;
+      priorities_low = λ p h. f.priorities_low p (subst (λ l. In l p) ep h);
+      activated_once = λ a h. f.activated_once a (subst (λ l. In l a) ea h);
+      few_resources = rs;
+      few_events = es;
+      few_tasks = subst (λ l. length l ≤ 64) (sym ep) f.few_tasks;
+    }
+
+module _ (os : List Object) (n : List ℕ) (f : Formed os) where
+  formed_resource : Allowed os (resource n) → Formed (os ++ (resource n ∷ []))
+  formed_resource a =
       let o = resource n ∷ [] in
       let er = ap length (resources_app os o) ∙ length-append (resources_of os) (n ∷ []) in
+      let ee = ap length (events_app os o) ∙ length-append (events_of os) [] in
       let low = a.1 in
-      let ep = priorities_app os o ∙ append-nil (priorities_of os) in
-      let ea = activations_app os o ∙ append-nil (activations_of os) in
-      let ee = events_app os o ∙ append-nil (events_of os) in
-      record {
-        names_differ = subst (λ l. Distinct l) (sym (names_app os o)) (distinct_more (names_of os) n f.names_differ a.0);
-        priorities_differ = subst (λ l. Distinct l) (sym ep) f.priorities_differ;
-        priorities_low = λ p h. f.priorities_low p (subst (λ l. In l p) ep h);
-        activated_once = λ p h. f.activated_once p (subst (λ l. In l p) ea h);
-        few_resources = omega arith;
-        few_events = subst (λ l. length l ≤ 32) (sym ee) f.few_events;
-        few_tasks = subst (λ l. length l ≤ 64) (sym ep) f.few_tasks;
-      }
+      let few = f.few_events in
+      formed_named os (resource n) refl refl a.0 (omega arith) (omega arith) f
 
-  formed_event : Formed os → Allowed os (event n) → Formed (os ++ (event n ∷ []))
-  formed_event f a =
+  formed_event : Allowed os (event n) → Formed (os ++ (event n ∷ []))
+  formed_event a =
       let o = event n ∷ [] in
+      let er = ap length (resources_app os o) ∙ length-append (resources_of os) [] in
       let ee = ap length (events_app os o) ∙ length-append (events_of os) (n ∷ []) in
       let low = a.1 in
-      let ep = priorities_app os o ∙ append-nil (priorities_of os) in
-      let ea = activations_app os o ∙ append-nil (activations_of os) in
-      let er = resources_app os o ∙ append-nil (resources_of os) in
-      record {
-        names_differ = subst (λ l. Distinct l) (sym (names_app os o)) (distinct_more (names_of os) n f.names_differ a.0);
-        priorities_differ = subst (λ l. Distinct l) (sym ep) f.priorities_differ;
-        priorities_low = λ p h. f.priorities_low p (subst (λ l. In l p) ep h);
-        activated_once = λ p h. f.activated_once p (subst (λ l. In l p) ea h);
-        few_resources = subst (λ l. length l ≤ 32) (sym er) f.few_resources;
-        few_events = omega arith;
-        few_tasks = subst (λ l. length l ≤ 64) (sym ep) f.few_tasks;
-      }
+      let few = f.few_resources in
+      formed_named os (event n) refl refl a.0 (omega arith) (omega arith) f
 
 formed_task : (os : List Object) (n : List ℕ) (p a : ℕ) (rs : List Reference) → Formed os → Allowed os (task n p a rs) → Formed (os ++ (task n p a rs ∷ []))
 formed_task os n p a rs f h =

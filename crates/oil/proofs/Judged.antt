@@ -1,5 +1,5 @@
 -- A text of some objects, judged object by object.
-use Rattle.std.proofs.Common.{◌≡◌, ℕ, zero, suc, ◌+◌, ◌-◌, ◌^◌, ◌<◌, true, false, eqb, ltb, List, [], ◌∷◌, ◌++◌, length, Some, None, Ok, Err, Option, Result, sym, refl, ap, ◌∙◌, subst, ⊎_elim, append-nil, arith, length-append, MatchResult}
+use Rattle.std.proofs.Common.{◌≡◌, ℕ, zero, suc, ◌+◌, ◌-◌, ◌^◌, ◌<◌, true, false, eqb, ltb, List, [], ◌∷◌, ◌++◌, length, Some, None, Ok, Err, Option, Result, sym, refl, ap, ◌∙◌, subst, append-nil, arith, length-append, MatchResult}
 use lib.Bits.{bit_or}
 use Rattle.std.proofs.lemmas.Bool.{cond_both, eqb-true, eqb-false, ltb-true, ltb-false}
 use Rattle.vectors.specs.Vectors.{in_vector}
@@ -21,8 +21,8 @@ use Rattle.std.proofs.lemmas.Grind.{flat_map-append}
 use Rattle.std.proofs.lemmas.List.{map-append}
 use Rattle.std.proofs.lemmas.List.Elements.{filter_map-append}
 use Rattle.oil.specs.Meaning.{At, In, name_of, resource_name, event_name, priority, activation, names_of, resources_of, events_of, priorities_of, activations_of, AllEarlier, uses_of, awaits_of, users_of, registered_of}
-use Rattle.oil.proofs.Vectors.{at_new, at_split, vector_more}
-use Rattle.oil.proofs.Stands.{ext_same, ext_more, StandsFor, Looked, Book, enter, vecs_declare, vecs_like, Drawn}
+use Rattle.oil.proofs.Vectors.{at_new, newest, vector_more}
+use Rattle.oil.proofs.Stands.{Ext, ext_same, ext_more, StandsFor, Looked, Book, enter, vecs_declare, vecs_like, Drawn, drawn_with, drawn_rows}
 
 -- the lists of several objects
 pub names_app : (xs bs : List Object) → names_of (xs ++ bs) ≡ names_of xs ++ names_of bs
@@ -72,17 +72,7 @@ book_like {ns} {rn} {en} {ns'} {rn'} {en'} {es} a b e t =
 
 pub drawn_like : {ps ps' : List ℕ} {rn en rn' en' : List (List ℕ)} {us us' ls ls' : List ℕ → List ℕ} {c c' : ℕ} {d : Draft} → ps ≡ ps' → rn ≡ rn' → en ≡ en' → ((m : List ℕ) → us' m ≡ us m) → ((m : List ℕ) → ls' m ≡ ls m) → c ≡ c' → Drawn ps rn en us ls c d → Drawn ps' rn' en' us' ls' c' d
 drawn_like {ps} {ps'} {rn} {en} {rn'} {en'} {us} {us'} {ls} {ls'} {c} {c'} {d} a b e f g h x =
-    let y : Drawn ps rn en us' ls' c d = record {
-      found = x.found;
-      same_count = x.same_count;
-      same_resources = x.same_resources;
-      same_events = x.same_events;
-      few_tasks = x.few_tasks;
-      few_resources = x.few_resources;
-      few_events = x.few_events;
-      users = vecs_like rn us us' d.users f x.users;
-      registered = vecs_like en ls ls' d.registered g x.registered;
-    } in
+    let y : Drawn ps rn en us' ls' c d = drawn_rows x (vecs_like rn us us' d.users f x.users) (vecs_like en ls ls' d.registered g x.registered) in
     subst (λ k. Drawn ps' rn' en' us' ls' k d) h (subst (λ l. Drawn ps' rn' l us' ls' c d) e (subst (λ l. Drawn ps' l en us' ls' c d) b (subst (λ l. Drawn l rn en us' ls' c d) a y)))
 
 pub stands_in : (ns rn en : List (List ℕ)) (n : List ℕ) (k : Kind) (i : ℕ) → StandsFor ns rn en n k i → In ns n
@@ -95,6 +85,20 @@ module _ {os : List Object} {d : Draft} {es : List Entry} (t : Tree os d es) (n 
   pub fresh : (In (names_of os) n → ⊥) × (In (resources_of os) n → ⊥) × (In (events_of os) n → ⊥)
   fresh = subst (Looked (names_of os) (resources_of os) (events_of os) n) none (t.book.looked n)
 
+  -- .. that is a resource or an event: it has a name, and no task
+  tree_named : (o : Object) (k : Kind) (i : ℕ) (rn en : List (List ℕ)) (e : Draft) → names_of (o ∷ []) ≡ n ∷ [] → priorities_of (o ∷ []) ≡ [] → ((m : List ℕ) → users_of m (o ∷ []) ≡ []) → ((m : List ℕ) → registered_of m (o ∷ []) ≡ [])
+      → resources_of (os ++ (o ∷ [])) ≡ rn → events_of (os ++ (o ∷ [])) ≡ en → Ext n (resources_of os) rn → Ext n (events_of os) en → StandsFor (names_of os ++ (n ∷ [])) rn en n k i
+      → Drawn (priorities_of os) rn en (λ m. users_of m os) (λ m. registered_of m os) (length (priorities_of os)) e → Tree (os ++ (o ∷ [])) e (record { name = n; kind = k; number = i } ∷ es)
+  tree_named o k i rn en e name no_priority no_users no_registered er ee xr xe stands dr =
+      let ep = priorities_app os (o ∷ []) ∙ ap (λ l. priorities_of os ++ l) no_priority ∙ append-nil (priorities_of os) in
+      record {
+        book = book_like (ap (λ l. names_of os ++ l) (sym name) ∙ sym (names_app os (o ∷ []))) (sym er) (sym ee) (enter k i (ext_more n (names_of os)) xr xe t.book stands);
+        drawn = drawn_like {us = λ m. users_of m os} {ls = λ m. registered_of m os} (sym ep) (sym er) (sym ee)
+            (λ m. users_app m os (o ∷ []) ∙ ap (λ l. users_of m os ++ l) (no_users m) ∙ append-nil (users_of m os))
+            (λ m. registered_app m os (o ∷ []) ∙ ap (λ l. registered_of m os ++ l) (no_registered m) ∙ append-nil (registered_of m os))
+            (ap length (sym ep)) dr;
+      }
+
   pub tree_resource : (d.resources ≡ 32 → ⊥) → Tree (os ++ (resource n ∷ [])) (with_resources d (d.resources + 1)) (record { name = n; kind = kind.Resource; number = d.resources } ∷ es)
   tree_resource low =
       let x = t.drawn in
@@ -103,28 +107,10 @@ module _ {os : List Object} {d : Draft} {es : List Entry} (t : Tree os d es) (n 
       let number = x.same_resources in
       let a = x.few_resources in
       let sized = length-append rn (n ∷ []) in
-      record {
-        book = book_like (sym (names_app os o)) (sym (resources_app os o)) (sym (events_app os o ∙ append-nil (events_of os)))
-            (enter kind.Resource d.resources (ext_more n (names_of os)) (ext_more n rn) (ext_same n (events_of os)) t.book (
-              (length (names_of os), at_new (names_of os) n),
-              subst (λ i. At (rn ++ (n ∷ [])) i n) (sym number) (at_new rn n),
-              (λ j h. ⊎_elim (λ old. absurd (fresh.1 (j, old))) (λ new. new.0 ∙ sym number) (at_split rn n j n h)),
-              fresh.2,
-            ));
-        drawn = drawn_like {us = λ m. users_of m os} {ls = λ m. registered_of m os} (sym (priorities_app os o ∙ append-nil (priorities_of os))) (sym (resources_app os o)) (sym (events_app os o ∙ append-nil (events_of os)))
-            (λ m. users_app m os o ∙ append-nil (users_of m os)) (λ m. registered_app m os o ∙ append-nil (registered_of m os)) (ap length (sym (priorities_app os o ∙ append-nil (priorities_of os))))
-            (record {
-              found = x.found;
-              same_count = x.same_count;
-              same_resources = omega arith;
-              same_events = x.same_events;
-              few_tasks = x.few_tasks;
-              few_resources = omega arith;
-              few_events = x.few_events;
-              users = vecs_declare rn (λ m. users_of m os) d.users n fresh.1 x.users;
-              registered = x.registered;
-            });
-      }
+      let last = newest rn n d.resources number fresh.1 in
+      tree_named (resource n) kind.Resource d.resources (rn ++ (n ∷ [])) (events_of os) (with_resources d (d.resources + 1)) refl refl (λ m. refl) (λ m. refl)
+      (resources_app os o) (events_app os o ∙ append-nil (events_of os)) (ext_more n rn) (ext_same n (events_of os)) ((length (names_of os), at_new (names_of os) n), last.0, last.1, fresh.2)
+      (drawn_with x (omega arith) x.same_events (omega arith) x.few_events (vecs_declare rn (λ m. users_of m os) d.users n fresh.1 x.users) x.registered)
 
   pub tree_event : (d.events ≡ 32 → ⊥) → Tree (os ++ (event n ∷ [])) (with_events d (d.events + 1)) (record { name = n; kind = kind.Event; number = d.events } ∷ es)
   tree_event low =
@@ -134,28 +120,10 @@ module _ {os : List Object} {d : Draft} {es : List Entry} (t : Tree os d es) (n 
       let number = x.same_events in
       let a = x.few_events in
       let sized = length-append en (n ∷ []) in
-      record {
-        book = book_like (sym (names_app os o)) (sym (resources_app os o ∙ append-nil (resources_of os))) (sym (events_app os o))
-            (enter kind.Event d.events (ext_more n (names_of os)) (ext_same n (resources_of os)) (ext_more n en) t.book (
-              (length (names_of os), at_new (names_of os) n),
-              subst (λ i. At (en ++ (n ∷ [])) i n) (sym number) (at_new en n),
-              (λ j h. ⊎_elim (λ old. absurd (fresh.2 (j, old))) (λ new. new.0 ∙ sym number) (at_split en n j n h)),
-              fresh.1,
-            ));
-        drawn = drawn_like {us = λ m. users_of m os} {ls = λ m. registered_of m os} (sym (priorities_app os o ∙ append-nil (priorities_of os))) (sym (resources_app os o ∙ append-nil (resources_of os))) (sym (events_app os o))
-            (λ m. users_app m os o ∙ append-nil (users_of m os)) (λ m. registered_app m os o ∙ append-nil (registered_of m os)) (ap length (sym (priorities_app os o ∙ append-nil (priorities_of os))))
-            (record {
-              found = x.found;
-              same_count = x.same_count;
-              same_resources = x.same_resources;
-              same_events = omega arith;
-              few_tasks = x.few_tasks;
-              few_resources = x.few_resources;
-              few_events = omega arith;
-              users = x.users;
-              registered = vecs_declare en (λ m. registered_of m os) d.registered n fresh.2 x.registered;
-            });
-      }
+      let last = newest en n d.events number fresh.2 in
+      tree_named (event n) kind.Event d.events (resources_of os) (en ++ (n ∷ [])) (with_events d (d.events + 1)) refl refl (λ m. refl) (λ m. refl)
+      (resources_app os o ∙ append-nil (resources_of os)) (events_app os o) (ext_same n (resources_of os)) (ext_more n en) ((length (names_of os), at_new (names_of os) n), last.0, last.1, fresh.1)
+      (drawn_with x x.same_resources (omega arith) x.few_resources (omega arith) x.users (vecs_declare en (λ m. registered_of m os) d.registered n fresh.2 x.registered))
 
   -- the name of a task, before its priority
   pub task_book : Book (names_of os ++ (n ∷ [])) (resources_of os) (events_of os) (record { name = n; kind = kind.Task; number = 0 } ∷ es)
@@ -230,6 +198,18 @@ later d kind.Resource = with_resources d (d.resources + 1)
 later d kind.Event = with_events d (d.events + 1)
 later d kind.Task = with_tasks d (d.tasks + 1)
 
+-- the objects of a kind that may be referred to
+abbrev pub among : Kind → List (List ℕ) → List (List ℕ) → List (List ℕ)
+among kind.Resource rn en = rn
+among kind.Event rn en = en
+among kind.Task rn en = []
+
+-- the draft with the task at hand added to what belongs to such an object
+abbrev pub adding : Draft → Kind → ℕ → Draft
+adding d kind.Resource i = with_users d (added d.users i d.current)
+adding d kind.Event i = with_registered d (added d.registered i d.current)
+adding d kind.Task i = d
+
 module _ (P : Draft → Type 0) (N : Type 0) where
   pub declares_says : (es : List Entry) (d : Draft) (n : List ℕ) (place : ℕ) (k : Kind) (found : Option Known) (cont : Draft → List Entry → Drafted) → ((x : Known) → found ≡ Some x → N) → (Limit d k → N) → (found ≡ None → (Limit d k → ⊥) → MatchResult (cont (later d k) (record { name = n; kind = k; number = next_number d k } ∷ es)) P (λ _. N)) → MatchResult (and_then (unless_known found place (grown d k place)) (λ e. cont e (learnt es d k n (unless_known found place (grown d k place))))) P (λ _. N)
   declares_says es d n place k (Some x) cont known full more = known x refl
@@ -251,20 +231,23 @@ module _ (P : Draft → Type 0) (N : Type 0) where
       cond_both (eqb v 1) _ _ (λ (x : Drafted). MatchResult (and_then x cont) P (λ _. N)) (λ y. more (eqb-true v 1 y)) (λ n. bad (eqb-false v 1 n))
 
   module _ (ns rn en : List (List ℕ)) (n : List ℕ) (d : Draft) (place : ℕ) (cont : Draft → Drafted) where
-    uses_by : ((In rn n → ⊥) → N) → ((i : ℕ) → At rn i n → ((j : ℕ) → At rn j n → j ≡ i) → MatchResult (cont (with_users d (added d.users i d.current))) P (λ _. N)) → (h : Kind) (i : ℕ) → StandsFor ns rn en n h i → MatchResult (and_then (referred_to d kind.Resource h i place) cont) P (λ _. N)
-    uses_by bad good kind.Resource i e = good i e.1 e.2
-    uses_by bad good kind.Event i e = bad e.3
-    uses_by bad good kind.Task i e = bad e.1
+    abbrev Unnamed : Kind → Type 0
+    Unnamed k = (In (among k rn en) n → ⊥) → N
 
-    pub uses_says : (found : Option Known) → Looked ns rn en n found → ((In rn n → ⊥) → N) → ((i : ℕ) → At rn i n → ((j : ℕ) → At rn j n → j ≡ i) → MatchResult (cont (with_users d (added d.users i d.current))) P (λ _. N)) → MatchResult (and_then (referred_by d kind.Resource found place) cont) P (λ _. N)
-    uses_says None l bad good = bad l.1
-    uses_says (Some r) l bad good = uses_by bad good r.kind r.number l
+    abbrev Goes : Kind → Type 0
+    Goes k = (i : ℕ) → At (among k rn en) i n → ((j : ℕ) → At (among k rn en) j n → j ≡ i) → MatchResult (cont (adding d k i)) P (λ _. N)
 
-    awaits_by : ((In en n → ⊥) → N) → ((i : ℕ) → At en i n → ((j : ℕ) → At en j n → j ≡ i) → MatchResult (cont (with_registered d (added d.registered i d.current))) P (λ _. N)) → (h : Kind) (i : ℕ) → StandsFor ns rn en n h i → MatchResult (and_then (referred_to d kind.Event h i place) cont) P (λ _. N)
-    awaits_by bad good kind.Resource i e = bad e.3
-    awaits_by bad good kind.Event i e = good i e.1 e.2
-    awaits_by bad good kind.Task i e = bad e.2
+    refers_by : (k h : Kind) (i : ℕ) → Unnamed k → Goes k → StandsFor ns rn en n h i → MatchResult (and_then (referred_to d k h i place) cont) P (λ _. N)
+    refers_by kind.Resource kind.Resource i bad good e = good i e.1 e.2
+    refers_by kind.Resource kind.Event i bad good e = bad e.3
+    refers_by kind.Resource kind.Task i bad good e = bad e.1
+    refers_by kind.Event kind.Resource i bad good e = bad e.3
+    refers_by kind.Event kind.Event i bad good e = good i e.1 e.2
+    refers_by kind.Event kind.Task i bad good e = bad e.2
+    refers_by kind.Task h i bad good e = bad (λ z. absurd z.1)
 
-    pub awaits_says : (found : Option Known) → Looked ns rn en n found → ((In en n → ⊥) → N) → ((i : ℕ) → At en i n → ((j : ℕ) → At en j n → j ≡ i) → MatchResult (cont (with_registered d (added d.registered i d.current))) P (λ _. N)) → MatchResult (and_then (referred_by d kind.Event found place) cont) P (λ _. N)
-    awaits_says None l bad good = bad l.2
-    awaits_says (Some r) l bad good = awaits_by bad good r.kind r.number l
+    pub refers_says : (k : Kind) (found : Option Known) → Looked ns rn en n found → Unnamed k → Goes k → MatchResult (and_then (referred_by d k found place) cont) P (λ _. N)
+    refers_says kind.Resource None l bad good = bad l.1
+    refers_says kind.Event None l bad good = bad l.2
+    refers_says kind.Task None l bad good = bad (λ z. absurd z.1)
+    refers_says k (Some r) l bad good = refers_by k r.kind r.number bad good l

@@ -71,29 +71,19 @@ module _ {d : Draft} (h : Kept d) where
     };
   }
 
-  pub kept_users : (n : ℕ) → n < d.resources → Kept (with_users d (added d.users n d.current))
-  kept_users n l = record {
+  kept_rows : (us rs : List ℕ) → Inside us d.declared → EmptyFrom us d.resources → Inside rs d.declared → EmptyFrom rs d.events → Kept (record d { users = us; registered = rs })
+  kept_rows us rs ui ue ri re = record {
     bounded = record { few_tasks = b.few_tasks; few_resources = b.few_resources; few_events = b.few_events };
-    sound = record {
-      users_in = added_in d.users n d.current d.declared s.users_in s.current_in;
-      registered_in = s.registered_in;
-      users_end = added_end d.users n d.current d.resources l s.users_end;
-      registered_end = s.registered_end;
-      current_in = s.current_in;
-    };
+    sound = record { users_in = ui; registered_in = ri; users_end = ue; registered_end = re; current_in = s.current_in };
   }
 
+  pub kept_users : (n : ℕ) → n < d.resources → Kept (with_users d (added d.users n d.current))
+  kept_users n l =
+      kept_rows (added d.users n d.current) d.registered (added_in d.users n d.current d.declared s.users_in s.current_in) (added_end d.users n d.current d.resources l s.users_end) s.registered_in s.registered_end
+
   pub kept_registered : (n : ℕ) → n < d.events → Kept (with_registered d (added d.registered n d.current))
-  kept_registered n l = record {
-    bounded = record { few_tasks = b.few_tasks; few_resources = b.few_resources; few_events = b.few_events };
-    sound = record {
-      users_in = s.users_in;
-      registered_in = added_in d.registered n d.current d.declared s.registered_in s.current_in;
-      users_end = s.users_end;
-      registered_end = added_end d.registered n d.current d.events l s.registered_end;
-      current_in = s.current_in;
-    };
-  }
+  kept_registered n l =
+      kept_rows d.users (added d.registered n d.current) s.users_in s.users_end (added_in d.registered n d.current d.declared s.registered_in s.current_in) (added_end d.registered n d.current d.events l s.registered_end)
 
 -- the counts of what is judged, for the definitions' sake, which know nothing of the type
 module _ {d : Draft} (b : Bounded d) where

@@ -137,10 +137,10 @@ module _ {text : List ℕ} {goal : Drafted} {left names : List NameRecord} {d : 
       }
 
   -- a text that ends in a fault of the layers below
-  pub going_unread : (f : GrammarFault) → Err f ≡ item_at text s pos → (Err (raised_plan f) ≡ goal) × (names ≡ left)
-  going_unread f h = going_fault (raised_plan f) names (ap (λ i. and_then (lift_plan i) (λ u. and_then (judged text (looked names) d u.item) (λ e. Ok (proceed u.item e u)))) h) (ap (noted_at text names d) h)
+  pub going_unread : {f : GrammarFault} → Err f ≡ item_at text s pos → (Err (raised_plan f) ≡ goal) × (names ≡ left)
+  going_unread {f} h = going_fault (raised_plan f) names (ap (λ i. and_then (lift_plan i) (λ u. and_then (judged text (looked names) d u.item) (λ e. Ok (proceed u.item e u)))) h) (ap (noted_at text names d) h)
 
-  module _ (st : Step) (h : Ok st ≡ item_at text s pos) where
+  module _ {st : Step} (h : Ok st ≡ item_at text s pos) where
     sits : ItemSits text st.item pos st.pos
     sits = item_sits text s pos st (sym h)
 
@@ -152,18 +152,18 @@ module _ {text : List ℕ} {goal : Drafted} {left names : List NameRecord} {d : 
     pub going_in : ItemIn text st.item
     going_in = item_in text st.item pos st.pos sits
 
-    module _ (after : List NameRecord) (noted_is : after ≡ noted text names d st.item) where
+    module _ {after : List NameRecord} (noted_is : after ≡ noted text names d st.item) where
       -- .. or in a fault of the item
-      pub going_refused : (f : PlanFault) → Err f ≡ judged text (looked names) d st.item → (Err f ≡ goal) × (after ≡ left)
-      going_refused f is = going_fault f after (step_is (Err f) is) (noted_is ∙ ap (noted_at text names d) h)
+      pub going_refused : {f : PlanFault} → Err f ≡ judged text (looked names) d st.item → (Err f ≡ goal) × (after ≡ left)
+      going_refused {f} is = going_fault f after (step_is (Err f) is) (noted_is ∙ ap (noted_at text names d) h)
 
       -- .. or is complete
-      pub going_end : (e : Draft) → Ok e ≡ judged text (looked names) d st.item → st.item ≡ item.End → (Ok e ≡ goal) × (after ≡ left)
-      going_end e is last = going_done e after (ap (λ i. Ok (proceed i e st)) (sym last) ∙ step_is (Ok e) is) (noted_is ∙ ap (noted_at text names d) h)
+      pub going_end : {e : Draft} → Ok e ≡ judged text (looked names) d st.item → st.item ≡ item.End → (Ok e ≡ goal) × (after ≡ left)
+      going_end {e} is last = going_done e after (ap (λ i. Ok (proceed i e st)) (sym last) ∙ step_is (Ok e) is) (noted_is ∙ ap (noted_at text names d) h)
 
       -- .. or goes on, further right
-      pub going_on : (e : Draft) → Ok e ≡ judged text (looked names) d st.item → (st.item ≡ item.End → ⊥) → Going text goal left after e st.state st.pos × (pos < st.pos) × (st.pos ≤ length text)
-      going_on e is ne =
+      pub going_on : {e : Draft} → Ok e ≡ judged text (looked names) d st.item → (st.item ≡ item.End → ⊥) → Going text goal left after e st.state st.pos × (pos < st.pos) × (st.pos ≤ length text)
+      going_on {e} is ne =
           let more = more_from st.item e st ne in
           let on = subst (GoesOn pos (length text) after) more (subst (λ ns. GoesOn pos (length text) ns (proceed st.item e st)) (sym noted_is) (goes_on text st.item st e (noted text names d st.item) pos sits (judged_ok text names d e st.item g.ready is))) in
           (going_more e st.state st.pos after (ap Ok (sym more) ∙ step_is (Ok e) is) on (noted_is ∙ ap (noted_at text names d) h), on.0, on.1)

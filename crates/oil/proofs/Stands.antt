@@ -1,7 +1,7 @@
 -- The names and the draft against the objects that are read so far.
 use Rattle.std.proofs.Common.{◌≡◌, ℕ, ◌^◌, ◌<◌, ◌≤◌, cond, List, [], ◌∷◌, ◌++◌, length, get_or, set, Some, None, Option, sym, refl, ap, ◌∙◌, subst, ⊎_elim, append-nil, arith, length-append, length-set, get_or-set_other, get_or-set_same}
 use lib.Bits.{bit_or}
-use Rattle.std.proofs.lemmas.Bool.{cond-true, cond-false, cond_both, true≢false}
+use Rattle.std.proofs.lemmas.Bool.{cases_eq, cond-true, cond-false, cond_both, true≢false}
 use Rattle.std.proofs.lemmas.Slice.Eq.{bytes_eq-Decides}
 use Rattle.std.specs.Str.{bytes_eq}
 use Rattle.grammar.specs.declared.item.Kind.{Kind}
@@ -11,7 +11,7 @@ use Rattle.oil.specs.declared.draft.Draft.{Draft}
 use Rattle.oil.specs.Draft.{added}
 use Rattle.oil.specs.Reading.{Entry, look_up}
 use Rattle.oil.specs.Meaning.{At, In, VectorOf}
-use Rattle.oil.proofs.Vectors.{at_old, at_split, at_low, at_same, in_old, vector_none, vector_more, cases_nat}
+use Rattle.oil.proofs.Vectors.{at_old, at_split, at_low, at_same, in_old, vector_none, vector_more}
 use Rattle.oil.proofs.Names.{same_no}
 
 -- the list ys is the list xs, or has n at its end too
@@ -91,7 +91,7 @@ vecs_add rn us us' vs n i p c at only few fits is more v =
           let value : get_or (set vs i new) j 0 ≡ bit_or (get_or vs i 0) (2 ^ p) = ap (λ k. get_or (set vs i new) k 0) same ∙ get_or-set_same vs i new 0 (omega arith) ∙ ap (bit_or (get_or vs i 0)) is in
           subst (λ x. VectorOf (us' m) x) (sym value) (subst (λ ps. VectorOf ps (bit_or (get_or vs i 0) (2 ^ p))) (sym plus ∙ ap us' nm) (vector_more (get_or vs i 0) (us n) p fits (v.each i n at))))
           (λ ne. subst (λ x. VectorOf (us' m) x) (sym (get_or-set_other vs i j new 0 ne)) (subst (λ ps. VectorOf ps (get_or vs j 0)) (sym (kept m (λ nm. ne (only j (subst (λ k. At rn j k) (sym nm) h))))) (v.each j m h)))
-          (cases_nat j i);
+          (cases_eq j i);
       beyond = λ j l. get_or-set_other vs i j new 0 (λ q. let w = q in absurd (omega arith)) ∙ v.beyond j l;
       size = length-set vs i new ∙ size;
       stray = λ m h. kept m (λ nm. h (i, subst (λ k. At rn i k) nm at)) ∙ v.stray m h;
@@ -116,3 +116,21 @@ pub record Drawn (ps : List ℕ) (rn en : List (List ℕ)) (us ls : List ℕ →
   pub few_events : length en ≤ 32
   pub users : Vecs rn us d.users
   pub registered : Vecs en ls d.registered
+
+-- .. and does so with other resources and events
+pub drawn_with : {ps : List ℕ} {rn en rn' en' : List (List ℕ)} {us ls us' ls' : List ℕ → List ℕ} {count rs es : ℕ} {d : Draft} {vs ws : List ℕ} → Drawn ps rn en us ls count d → rs ≡ length rn' → es ≡ length en' → length rn' ≤ 32 → length en' ≤ 32 → Vecs rn' us' vs → Vecs en' ls' ws → Drawn ps rn' en' us' ls' count (record d { resources = rs; events = es; users = vs; registered = ws })
+drawn_with x r e few_r few_e u l = record {
+  found = x.found;
+  same_count = x.same_count;
+  same_resources = r;
+  same_events = e;
+  few_tasks = x.few_tasks;
+  few_resources = few_r;
+  few_events = few_e;
+  users = u;
+  registered = l;
+}
+
+-- .. or with other rows alone
+pub drawn_rows : {ps : List ℕ} {rn en : List (List ℕ)} {us ls us' ls' : List ℕ → List ℕ} {count : ℕ} {d : Draft} {vs ws : List ℕ} → Drawn ps rn en us ls count d → Vecs rn us' vs → Vecs en ls' ws → Drawn ps rn en us' ls' count (record d { users = vs; registered = ws })
+drawn_rows x u l = drawn_with x x.same_resources x.same_events x.few_resources x.few_events u l

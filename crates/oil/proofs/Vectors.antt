@@ -1,11 +1,12 @@
 -- Places of lists, and vectors of tasks.
-use Rattle.std.proofs.Common.{◌≡◌, ℕ, zero, suc, ◌/◌, ◌^◌, ◌<◌, Bool, true, false, ◌||◌, eqb, ◌⊎◌, List, [], ◌∷◌, ◌++◌, length, sym, refl, ap, ◌∙◌, subst, inl, inr, ⊎_elim, pow-suc, arith}
+use Rattle.std.proofs.Common.{◌≡◌, ℕ, zero, suc, ◌^◌, ◌<◌, Bool, true, false, ◌||◌, eqb, ◌⊎◌, List, [], ◌∷◌, ◌++◌, length, sym, refl, ap, ◌∙◌, subst, inl, inr, ⊎_elim, arith}
 use lib.Bits.{bit_or, or_lt}
 use lib.Pow.{pow-lt}
-use Rattle.std.proofs.lemmas.Bool.{cases_Bool, eqb-true, eqb-false, eq-eqb, or_cases, or_left, or_right, both_ways}
+use Rattle.std.proofs.lemmas.Bool.{cases_Bool, eqb-true, eq-eqb, or_cases, or_left, or_right, both_ways}
 use Rattle.std.proofs.lemmas.Bool.Decides.{nat_tests}
+use Rattle.std.proofs.lemmas.Nat.Bits.{same_from_bits_below}
 use Rattle.vectors.specs.Vectors.{in_vector, with}
-use Rattle.vectors.proofs.Bits.{bit, bit_half, bit_first, shifted_is}
+use Rattle.vectors.proofs.Bits.{bit, shifted_is}
 use Rattle.vectors.proofs.Vectors.{code_with, in_none}
 use Rattle.oil.specs.Meaning.{At, In, VectorOf}
 
@@ -41,11 +42,12 @@ module _ {X : Type 0} where
   pub in_split : (xs : List X) (y x : X) → In (xs ++ (y ∷ [])) x → In xs x ⊎ (y ≡ x)
   in_split xs y x h = ⊎_elim (λ a. inl (h.0, a)) (λ b. inr b.1) (at_split xs y h.0 x h.1)
 
+-- what comes new stands at the end, and nowhere else
+pub newest : {X : Type 0} (xs : List X) (y : X) (i : ℕ) → i ≡ length xs → (In xs y → ⊥) → At (xs ++ (y ∷ [])) i y × ((j : ℕ) → At (xs ++ (y ∷ [])) j y → j ≡ i)
+newest xs y i e new = (subst (λ k. At (xs ++ (y ∷ [])) k y) (sym e) (at_new xs y), λ j h. ⊎_elim (λ old. absurd (new (j, old))) (λ b. b.0 ∙ sym e) (at_split xs y j y h))
+
 pub vector_none : VectorOf [] 0
 vector_none = record { fits = omega arith; there = λ k h. absurd h.1; only = λ k h. absurd (both_ways (in_vector 0 k) (in_none k) h) }
-
-pub cases_nat : (a b : ℕ) → (a ≡ b) ⊎ (a ≡ b → ⊥)
-cases_nat a b = ⊎_elim (λ y. inl (eqb-true a b y)) (λ n. inr (λ e. eqb-false a b n e)) (cases_Bool (eqb a b))
 
 -- a vector and one task more
 in_with : (v p : ℕ) → p < 64 → in_vector (bit_or v (2 ^ p)) ≡ with p (in_vector v)
@@ -67,14 +69,6 @@ vector_more v ps p low f =
 pub taken_out : (v : ℕ) (ps : List ℕ) (k : ℕ) → VectorOf ps v → in_vector v k ≡ false → In ps k → ⊥
 taken_out v ps k f h i = both_ways (in_vector v k) h (f.there k i)
 
--- numbers with the same bits are the same
-same_bits : (w a b : ℕ) → a < 2 ^ w → b < 2 ^ w → ((k : ℕ) → k < w → bit a k ≡ bit b k) → a ≡ b
-same_bits zero a b h l e = omega arith
-same_bits (suc w) a b h l e =
-    let p = pow-suc 2 w in
-    let q : a / 2 ≡ b / 2 = same_bits w (a / 2) (b / 2) (omega arith) (omega arith) (λ k n. bit_half a k ∙ e (suc k) (omega arith) ∙ sym (bit_half b k)) in
-    omega (arith, bit_first a, bit_first b, e 0 (omega arith))
-
 bit_like : (a b k : ℕ) → k < 64 → (in_vector a k ≡ true → in_vector b k ≡ true) → (in_vector b k ≡ true → in_vector a k ≡ true) → bit a k ≡ bit b k
 bit_like a b k l f g =
     ⊎_elim
@@ -87,4 +81,4 @@ bit_like a b k l f g =
 
 -- a vector is known by its tasks
 pub vector_same : (ps : List ℕ) (a b : ℕ) → VectorOf ps a → VectorOf ps b → a ≡ b
-vector_same ps a b f g = same_bits 64 a b f.fits g.fits (λ k l. bit_like a b k l (λ y. g.there k (f.only k y)) (λ y. f.there k (g.only k y)))
+vector_same ps a b f g = same_from_bits_below 64 a b f.fits g.fits (λ k l. bit_like a b k l (λ y. g.there k (f.only k y)) (λ y. f.there k (g.only k y)))

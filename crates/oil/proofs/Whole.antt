@@ -1,5 +1,5 @@
 -- A whole text: what comes before its items, and that a text read to its end is one that the grammar takes.
-use Rattle.std.proofs.Common.{◌≡◌, ℕ, zero, suc, ◌≤◌, Bool, true, false, ltb, List, [], length, Ok, Err, Result, sym, refl, ap, ◌∙◌, ⊎_elim, arith}
+use Rattle.std.proofs.Common.{◌≡◌, ℕ, zero, suc, ◌≤◌, true, false, ltb, List, [], length, Ok, Err, Result, sym, refl, ap, ◌∙◌, ⊎_elim, arith}
 use Rattle.std.proofs.lemmas.Bool.{false≢true, cases_Bool, cond-true, cond-false, ltb-true, ltb-false}
 use Rattle.letters.specs.declared.fault.LettersCause.TheVariants as letters
 use Rattle.letters.specs.declared.fault.LettersFault.{LettersFault}
@@ -13,7 +13,7 @@ use Rattle.grammar.specs.declared.item.Step.{Step}
 use Rattle.grammar.specs.Faults.{and_then, lifted}
 use Rattle.grammar.specs.Items.{item_at}
 use Rattle.grammar.specs.Language.{Run, ends, goes, Object, Spells, unparse}
-use Rattle.grammar.proofs.Through.{through}
+use Rattle.grammar.proofs.Through.{through, is_last}
 use Rattle.grammar.proofs.Accepts.{takes_lawful}
 use Rattle.oil.specs.declared.draft.Draft.{Draft}
 use Rattle.oil.specs.declared.fault.PlanCause.TheVariants as cause
@@ -63,17 +63,8 @@ drafted_from text records r h n9 n1 =
 pub drafted_ok : (text : List ℕ) (records : ℕ) (d : Draft) → drafted text records ≡ Ok d → (128 ≤ records) × (length text ≤ 32768) × (whole text ≡ Ok d)
 drafted_ok text records d h = drafted_from text records (Ok d) h (λ e. let z : ◌≡◌ {A = ℕ} 0 1 = cc in omega arith) (λ e. let z : ◌≡◌ {A = ℕ} 0 1 = cc in omega arith)
 
-is_last : Item → Bool
-is_last (item.Declares k t) = false
-is_last (item.Priority n t) = false
-is_last (item.Activation n t) = false
-is_last (item.Refers k t) = false
-is_last item.Closes = false
-is_last item.End = true
-
 -- one step, and then the rest
 then_run : (text : List ℕ) (s : State) (pos : ℕ) (st : Step) (i : Item) (d e : Draft) (f : Draft → State → ℕ → Drafted) → st.item ≡ i → item_at text s pos ≡ Ok st → ((b : Draft) (t : State) (q : ℕ) → f b t q ≡ Ok e → Run text t q) → resume (proceed i d st) (λ b. Ok b) f ≡ Ok e → Run text s pos
-unfolding is_last
 then_run text s pos st (item.Declares k t) d e f is h more r = goes st h (λ x. absurd (false≢true (ap is_last (sym is ∙ x)))) (more d st.state st.pos r)
 then_run text s pos st (item.Priority n t) d e f is h more r = goes st h (λ x. absurd (false≢true (ap is_last (sym is ∙ x)))) (more d st.state st.pos r)
 then_run text s pos st (item.Activation n t) d e f is h more r = goes st h (λ x. absurd (false≢true (ap is_last (sym is ∙ x)))) (more d st.state st.pos r)

@@ -11,6 +11,7 @@ pub returns-in_err-draft-clause-meaning : goal.returns-in_err-draft-clause-meani
 returns-in_err-draft-clause-meaning c =
     understood_by c.args.text.now (length c.args.names.now) c.args.plan.now c.args.plan.now c.from_residual.result (search rules) (search rules)
 
+-- by one lemma it was tried: the three returns share no record that it could be over
 pub returns-in_err-draft-clause-bound : goal.returns-in_err-draft-clause-bound
 returns-in_err-draft-clause-bound c = bound_free c.args.text.now
 
