@@ -1,7 +1,6 @@
-use Rattle.std.proofs.Common.{◌≡◌, ℕ, ◌+◌, ◌^◌, ◌<◌, sym, ap, ◌∙◌, subst, arith}
+use Rattle.std.proofs.Common.{ℕ, ◌^◌, ◌<◌, sym, ap, ◌∙◌, subst, arith}
 use Rattle.vectors.specs.Vectors.{in_vector, with}
 use Rattle.std.proofs.lemmas.Bool.{lt-ltb, cond-true}
-use Rattle.kernel.specs.Parts.{below}
 use Rattle.kernel.proofs.Joining.{below_put, below_skip}
 use Rattle.kernel.proofs.kernel.Kernel.with_row.Goals as goal
 use Rattle.kernel.proofs.kernel.Kernel.with_row.Goals.{then-has, else-has}
@@ -21,8 +20,3 @@ loop-t-preserved g c =
         ap in_vector w.members-is ∙ c.loop-t.invariant.1 ∙ below_skip t m (sym c.has.ensures ∙ w.if-has.false),
       )
     ]
-
-pub returns : goal.returns
-returns g c =
-    let m = g.R.WaitingSet.holds c.args.self.now.set in
-    c.loop-t.invariant.1 ∙ ap (λ n. below n m) (let e : c.loop-t.t ≡ c.args.first + 8 = omega arith in e)
