@@ -1,4 +1,4 @@
-use Rattle.std.proofs.Common.{ℕ, ◌^◌, ◌<◌, sym, ap, ◌∙◌, subst, arith}
+use Rattle.std.proofs.Common.{◌<◌, sym, ap, ◌∙◌, arith}
 use Rattle.vectors.specs.Vectors.{in_vector, with}
 use Rattle.std.proofs.lemmas.Bool.{lt-ltb, cond-true}
 use Rattle.kernel.proofs.Joining.{below_put, below_skip}
@@ -11,12 +11,6 @@ loop-t-preserved g c =
     let t = c.loop-t.t in
     let small : t < 64 = omega (arith, c.requires.row) in
     elim c.if-has.branch [
-      | then-has w ↦ (
-        subst (λ (n : ℕ). n < 2 ^ 64) (sym w.members-is) w.with-members.type_inv,
-        ap in_vector w.members-is ∙ w.with-members.ensures.after ∙ cond-true _ _ _ (lt-ltb t 64 small) ∙ ap (with t) c.loop-t.invariant.1 ∙ below_put t m (sym c.has.ensures ∙ w.if-has.true),
-      )
-      | else-has w ↦ (
-        subst (λ (n : ℕ). n < 2 ^ 64) (sym w.members-is) c.loop-t.invariant.0,
-        ap in_vector w.members-is ∙ c.loop-t.invariant.1 ∙ below_skip t m (sym c.has.ensures ∙ w.if-has.false),
-      )
+      | then-has w ↦ ap in_vector w.members-is ∙ w.with-members.ensures.after ∙ cond-true _ _ _ (lt-ltb t 64 small) ∙ ap (with t) c.loop-t.invariant ∙ below_put t m (sym c.has.ensures ∙ w.if-has.true)
+      | else-has w ↦ ap in_vector w.members-is ∙ c.loop-t.invariant ∙ below_skip t m (sym c.has.ensures ∙ w.if-has.false)
     ]
