@@ -10,7 +10,7 @@ use Rattle.plan.specs.declared.record.Plan.{Plan}
 use Rattle.machine.specs.Schedules.{head, tail, among, holder, holds_any, system_ceiling_under}
 use Rattle.machine.specs.Refusals.{present, same, holds_some}
 use Rattle.machine.specs.Shapes.{Falling, Single, Nested}
-use Rattle.laws.proofs.Sets.{some_none}
+use Rattle.std.proofs.lemmas.Option.{none-some}
 use Rattle.laws.proofs.Lists.{among_cases, among_here, among_there, holder_here, holder_older, holds_none}
 use Rattle.kernel.specs.declared.held_lock.HeldLock.{HeldLock}
 use Rattle.kernel.specs.Lists.{IsChain, entries, IsHeldList, Placed, keeps_levels}
@@ -64,7 +64,7 @@ locked_any (l ∷ ls) q = go (eqb q l.resource) (locked_any ls q)
 lacks : (ls : List HeldLock) (r : ℕ) → holder (entries ls) r ≡ None → AllByRecursion (λ y. eqb r y ≡ false) (locked ls)
 lacks [] r e = tt
 lacks (l ∷ ls) r e = ⊎_elim
-    (λ (z : eqb r l.resource ≡ true). absurd (some_none l.holder (holder (entries (l ∷ ls)) r) (ap (λ b. cond b (Some l.holder) (holder (entries ls) r)) z) e))
+    (λ (z : eqb r l.resource ≡ true). absurd (none-some l.holder (sym e ∙ ap (λ b. cond b (Some l.holder) (holder (entries ls) r)) z)))
     (λ (z : eqb r l.resource ≡ false). (z, lacks ls r (sym (ap (λ b. cond b (Some l.holder) (holder (entries ls) r)) z) ∙ e)))
     (cases_Bool (eqb r l.resource))
 
@@ -104,7 +104,7 @@ holder_of (Some l) = l.holder
 pub newest_tells : (ls : List HeldLock) (l : HeldLock) (t : ℕ) → head ls ≡ Some l → Single (entries ls) → Nested (entries ls)
     → ((r k : ℕ) → holder (entries ls) r ≡ Some k → k ≤ t) → eqb l.holder t ≡ holds_some (entries ls) (Some t)
 unfolding holder_of
-newest_tells [] l t e s n low = absurd (some_none l None e refl)
+newest_tells [] l t e s n low = absurd (none-some l e)
 newest_tells (x ∷ xs) l t e s n low =
     let q : x.holder ≡ l.holder = ap holder_of e in
     let under : x.holder ≤ t = low x.resource x.holder (holder_here x.resource x.holder (entries xs) x.resource refl) in
