@@ -3,8 +3,9 @@ use Rattle.std.proofs.lemmas.List.{reverse-append, length-map}
 use Rattle.std.proofs.lemmas.List.Sorted.{IsPermutation-reverse, list_any-IsPermutation}
 use Rattle.std.proofs.lemmas.Map.Keys.{IsDistinct-cons}
 use Rattle.std.proofs.lemmas.Map.Steps.{length-le_from_distinct_below}
+use Rattle.std.specs.Option.{option_to_list}
 use Rattle.std.specs.List.{AllByRecursion, IsDistinct, list_any}
-use Rattle.std.proofs.Common.{◌≡◌, ℕ, ◌<◌, ◌≤◌, Bool, true, false, cond, ◌||◌, eqb, List, [], ◌∷◌, ◌++◌, length, map, reverse, Some, None, Option, sym, refl, ap, ◌∙◌, subst, ⊎_elim, arith}
+use Rattle.std.proofs.Common.{◌≡◌, ℕ, ◌<◌, ◌≤◌, Bool, true, false, cond, ◌||◌, eqb, List, [], ◌∷◌, ◌++◌, length, map, reverse, Some, None, Option, sym, refl, ap, ◌∙◌, subst, ⊎_elim, append-nil, arith}
 use Rattle.std.proofs.lemmas.Bool.{both_ways, cases_eq, eq-eqb, ne_eqb, cases_Bool, or_left, or_from, or_cases, and_parts, eqb-true}
 use Rattle.plan.specs.declared.record.Plan.{Plan}
 use Rattle.machine.specs.Schedules.{head, tail, among, holder, holds_any, system_ceiling_under}
@@ -18,6 +19,11 @@ use Rattle.kernel.specs.Lists.{IsChain, entries, IsHeldList, Placed, keeps_level
 -- the last of a vector is the newest of the list that contracts see
 pub newest_of : {A : Type 0} (xs ys : List A) (x : A) → xs ≡ ys ++ x ∷ [] → reverse xs ≡ x ∷ reverse ys
 newest_of xs ys x e = ap reverse e ∙ reverse-append ys (x ∷ [])
+
+-- what a list keeps without its newest, it keeps when the vector gives up its last
+pub popped : {A : Type 0} (P : List A → Type 0) → ((x : A) (xs : List A) → P (x ∷ xs) → P xs) → (xs ys : List A) (o : Option A) → xs ≡ ys ++ option_to_list o → P (reverse xs) → P (reverse ys)
+popped P less xs ys None e h = subst (λ zs. P (reverse zs)) (e ∙ append-nil ys) h
+popped P less xs ys (Some x) e h = less x (reverse ys) (subst P (newest_of xs ys x e) h)
 
 -- chains
 
