@@ -1,11 +1,10 @@
 -- The tasks of a vector put into the waiting set one after the other, and the set read back place by place.
 use Rattle.std.proofs.Common.{◌≡◌, ℕ, ◌+◌, ◌<◌, ◌≤◌, Bool, true, false, cond, not, ◌&&◌, ◌||◌, eqb, ltb, sym, refl, ap, ◌∙◌, ⊎_elim, arith}
 use mathlib.Core.Path.{fun_ext}
-use Rattle.std.proofs.lemmas.Bool.{cases_eq, cases_lt, cases_Bool, lt-ltb, le-ltb, eq-eqb, ne_eqb, false≢true, and_left, and_from, or_left, or_right, not_from_false, cond-true, cond-false}
-use Rattle.vectors.specs.Vectors.{in_vector, with, without}
+use Rattle.std.proofs.lemmas.Bool.{cases_eq, cases_lt, cases_Bool, lt-ltb, le-ltb, eq-eqb, ne_eqb, false≢true, and_from, or_left, or_right, not_from_false, cond-true, cond-false}
+use Rattle.vectors.specs.Vectors.{with, without}
 use Rattle.kernel.specs.Parts.{below}
 use Rattle.vectors.proofs.Bits.{and_false, or_false}
-use Rattle.vectors.proofs.Vectors.{in_none}
 
 -- the waiting tasks after those of v below c are added, but for those of the chain
 abbrev pub joined : ℕ → (ℕ → Bool) → (ℕ → Bool) → (ℕ → Bool) → ℕ → Bool
@@ -53,9 +52,6 @@ put_in t c rest old chained y n = ⊎_elim
 -- nothing is left
 pub all_there : (c : ℕ) (rest old chained : ℕ → Bool) → ((k : ℕ) → rest k ≡ false) → old ≡ joined c rest old chained
 all_there c rest old chained h = fun_ext (λ k. sym (or_false (old k)) ∙ sym (ap (λ b. old k || (ltb k c && (b && not (chained k)))) (h k) ∙ ap (λ b. old k || b) (and_false (ltb k c))))
-
-pub below_none : (m : ℕ → Bool) → in_vector 0 ≡ below 0 m
-below_none m = fun_ext (λ k. in_none k ∙ sym (and_left (ltb k 0) (m k) (le-ltb k 0 (omega arith))))
 
 pub below_put : (i : ℕ) (m : ℕ → Bool) → m i ≡ true → with i (below i m) ≡ below (i + 1) m
 below_put i m y = fun_ext (λ k. ⊎_elim

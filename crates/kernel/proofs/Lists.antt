@@ -3,16 +3,16 @@ use Rattle.std.proofs.lemmas.List.{reverse-append, length-map}
 use Rattle.std.proofs.lemmas.List.Sorted.{IsPermutation-reverse, list_any-IsPermutation}
 use Rattle.std.proofs.lemmas.Map.Keys.{IsDistinct-cons}
 use Rattle.std.proofs.lemmas.Map.Steps.{length-le_from_distinct_below}
+use Rattle.std.specs.Option.{option_to_list}
 use Rattle.std.specs.List.{AllByRecursion, IsDistinct, list_any}
-use Rattle.std.proofs.Common.{◌≡◌, ℕ, ◌<◌, ◌≤◌, Bool, true, false, cond, ◌||◌, eqb, List, [], ◌∷◌, ◌++◌, length, map, reverse, Some, None, Option, sym, refl, ap, ◌∙◌, subst, ⊎_elim, arith}
+use Rattle.std.proofs.Common.{◌≡◌, ℕ, ◌<◌, ◌≤◌, Bool, true, false, cond, ◌||◌, eqb, List, [], ◌∷◌, ◌++◌, length, map, reverse, Some, None, Option, sym, refl, ap, ◌∙◌, subst, ⊎_elim, append-nil, arith}
 use Rattle.std.proofs.lemmas.Bool.{both_ways, cases_eq, eq-eqb, ne_eqb, cases_Bool, or_left, or_from, or_cases, and_parts, eqb-true}
 use Rattle.plan.specs.declared.record.Plan.{Plan}
-use Rattle.plan.specs.Plans.{reaches}
 use Rattle.machine.specs.Schedules.{head, tail, among, holder, holds_any, system_ceiling_under}
 use Rattle.machine.specs.Refusals.{present, same, holds_some}
 use Rattle.machine.specs.Shapes.{Falling, Single, Nested}
-use Rattle.laws.proofs.Sets.{some_none}
-use Rattle.laws.proofs.Lists.{over_chain, among_cases, among_here, among_there, holder_here, holder_cases, holder_older, holds_none}
+use Rattle.std.proofs.lemmas.Option.{none-some}
+use Rattle.laws.proofs.Lists.{among_cases, among_here, among_there, holder_here, holder_older, holds_none}
 use Rattle.kernel.specs.declared.held_lock.HeldLock.{HeldLock}
 use Rattle.kernel.specs.Lists.{IsChain, entries, IsHeldList, Placed, keeps_levels}
 
@@ -20,10 +20,12 @@ use Rattle.kernel.specs.Lists.{IsChain, entries, IsHeldList, Placed, keeps_level
 pub newest_of : {A : Type 0} (xs ys : List A) (x : A) → xs ≡ ys ++ x ∷ [] → reverse xs ≡ x ∷ reverse ys
 newest_of xs ys x e = ap reverse e ∙ reverse-append ys (x ∷ [])
 
--- chains
+-- what a list keeps without its newest, it keeps when the vector gives up its last
+pub popped : {A : Type 0} (P : List A → Type 0) → ((x : A) (xs : List A) → P (x ∷ xs) → P xs) → (xs ys : List A) (o : Option A) → xs ≡ ys ++ option_to_list o → P (reverse xs) → P (reverse ys)
+popped P less xs ys None e h = subst (λ zs. P (reverse zs)) (e ∙ append-nil ys) h
+popped P less xs ys (Some x) e h = less x (reverse ys) (subst P (newest_of xs ys x e) h)
 
-pub no_chain : IsChain []
-no_chain = record { falling = tt; small = λ t e. absurd (both_ways false refl e) }
+-- chains
 
 -- a task is in the chain where the search over its vector finds it
 found_any : (xs : List ℕ) (t : ℕ) → list_any (λ y. eqb y t) xs ≡ among xs t
@@ -41,28 +43,10 @@ chain_room (x ∷ xs) w f h =
     let b : length xs ≤ x = chain_room xs x f.1 f.0 in
     omega arith
 
-pub chain_push : (xs : List ℕ) (w : ℕ) → IsChain xs → w < 64 → reaches (head xs) w ≡ false → IsChain (w ∷ xs)
-chain_push xs w c small e = record {
-  falling = (over_chain xs c.falling w e, c.falling);
-  small = λ t a. ⊎_elim (λ (q : t ≡ w). omega arith) (λ (q : among xs t ≡ true). c.small t q) (among_cases w xs t a);
-}
-
 pub chain_pop : (x : ℕ) (xs : List ℕ) → IsChain (x ∷ xs) → IsChain xs
 chain_pop x xs c = record { falling = c.falling.1; small = λ t a. c.small t (among_there x xs t a) }
 
 -- held lists
-
-pub nothing_held : IsHeldList []
-nothing_held = record { single = tt; nested = tt; small = λ r k e. absurd (some_none k None e refl) }
-
-pub locked_more : (l : HeldLock) (ls : List HeldLock) → IsHeldList ls → l.resource < 32 → holder (entries ls) l.resource ≡ None
-    → ((r k : ℕ) → holder (entries ls) r ≡ Some k → k ≤ l.holder) → IsHeldList (l ∷ ls)
-locked_more l ls h small free above = record {
-  single = (free, h.single);
-  nested = (above, h.nested);
-  small = λ r k e. ⊎_elim (λ (z : (r ≡ l.resource) × (l.holder ≡ k)). omega (arith, z.0)) (λ (z : (r ≡ l.resource → ⊥) × (holder (entries ls) r ≡ Some k)). h.small r k z.1)
-      (holder_cases (l.resource, l.holder) (entries ls) r k e);
-}
 
 pub locked_less : (l : HeldLock) (ls : List HeldLock) → IsHeldList (l ∷ ls) → IsHeldList ls
 locked_less l ls h = record {
@@ -86,7 +70,7 @@ locked_any (l ∷ ls) q = go (eqb q l.resource) (locked_any ls q)
 lacks : (ls : List HeldLock) (r : ℕ) → holder (entries ls) r ≡ None → AllByRecursion (λ y. eqb r y ≡ false) (locked ls)
 lacks [] r e = tt
 lacks (l ∷ ls) r e = ⊎_elim
-    (λ (z : eqb r l.resource ≡ true). absurd (some_none l.holder (holder (entries (l ∷ ls)) r) (ap (λ b. cond b (Some l.holder) (holder (entries ls) r)) z) e))
+    (λ (z : eqb r l.resource ≡ true). absurd (none-some l.holder (sym e ∙ ap (λ b. cond b (Some l.holder) (holder (entries ls) r)) z)))
     (λ (z : eqb r l.resource ≡ false). (z, lacks ls r (sym (ap (λ b. cond b (Some l.holder) (holder (entries ls) r)) z) ∙ e)))
     (cases_Bool (eqb r l.resource))
 
@@ -126,7 +110,7 @@ holder_of (Some l) = l.holder
 pub newest_tells : (ls : List HeldLock) (l : HeldLock) (t : ℕ) → head ls ≡ Some l → Single (entries ls) → Nested (entries ls)
     → ((r k : ℕ) → holder (entries ls) r ≡ Some k → k ≤ t) → eqb l.holder t ≡ holds_some (entries ls) (Some t)
 unfolding holder_of
-newest_tells [] l t e s n low = absurd (some_none l None e refl)
+newest_tells [] l t e s n low = absurd (none-some l e)
 newest_tells (x ∷ xs) l t e s n low =
     let q : x.holder ≡ l.holder = ap holder_of e in
     let under : x.holder ≤ t = low x.resource x.holder (holder_here x.resource x.holder (entries xs) x.resource refl) in
@@ -140,10 +124,13 @@ newest_tells (x ∷ xs) l t e s n low =
     (cases_eq t x.holder)
 
 -- one lock less
-pub fewer_held : (p : Option Plan) (chain : List ℕ) (ls : List HeldLock) → Single (entries ls) → (present p ≡ false → ls ≡ []) → Placed chain ls → keeps_levels p ls ≡ true
-    → (present p ≡ false → tail ls ≡ []) × Placed chain (tail ls) × (keeps_levels p (tail ls) ≡ true)
-fewer_held p chain [] s e h k = (λ z. refl, h, k)
-fewer_held p chain (l ∷ ls) s e h k = (λ z. ap tail (e z), (λ r i q. h r i (holder_older (l.resource, l.holder) (entries ls) s r i q)), (and_parts (same l.level (system_ceiling_under p (entries (l ∷ ls)))) (keeps_levels p ls) k).1)
+pub placed_less : (chain : List ℕ) (ls : List HeldLock) → Single (entries ls) → Placed chain ls → Placed chain (tail ls)
+placed_less chain [] s h r k e = h r k e
+placed_less chain (l ∷ ls) s h r k e = h r k (holder_older (l.resource, l.holder) (entries ls) s r k e)
+
+pub levels_less : (p : Option Plan) (ls : List HeldLock) → keeps_levels p ls ≡ true → keeps_levels p (tail ls) ≡ true
+levels_less p [] k = k
+levels_less p (l ∷ ls) k = (and_parts (same l.level (system_ceiling_under p (entries (l ∷ ls)))) (keeps_levels p ls) k).1
 
 pub placed_tail : (chain : List ℕ) (ls : List HeldLock) → holds_some (entries ls) (head chain) ≡ false → Placed chain ls → Placed (tail chain) ls
 placed_tail [] ls e h r k i = h r k i

@@ -13,7 +13,7 @@ use Rattle.machine.specs.Refusals.{refusal}
 use Rattle.machine.specs.History.{Entry, History, told, made, runs, plan_of, holder_of, unfinished, unfinished_after, ended, ends, begins, given, changed_holder}
 use Rattle.vectors.proofs.Vectors.{highest_empties}
 use Rattle.vectors.proofs.Vectors.{Greatest, highest_some}
-use Rattle.laws.proofs.Sets.{some_none}
+use Rattle.std.proofs.lemmas.Option.{none-some}
 use Rattle.laws.proofs.Lists.{unlocked}
 use Rattle.machine.specs.Shapes.{Falling}
 use Rattle.laws.proofs.Allowances.{allows}
@@ -204,7 +204,7 @@ inv_first c w s =
       busy_is = λ t. refl;
       good =
           record {
-            shape = record { apart = λ t e. refl; falling = tt; placed = λ r k e. absurd (some_none k None e refl); single = tt; nested = tt };
+            shape = record { apart = λ t e. refl; falling = tt; placed = λ r k e. absurd (none-some k e); single = tt; nested = tt };
             stands = record { no_chain = refl; no_held = refl; inside = s };
             rests = tt;
           };

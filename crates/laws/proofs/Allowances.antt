@@ -16,11 +16,11 @@ use Rattle.machine.specs.Refusals.{tasks_of, may_lock, refuse_if, present, absen
 use Rattle.machine.specs.History.{accepted}
 use Rattle.vectors.proofs.Vectors.{highest_empties, in_small, none_strays}
 use Rattle.vectors.proofs.Vectors.{highest_some}
-use Rattle.laws.proofs.Sets.{some_none}
+use Rattle.std.proofs.lemmas.Option.{none-some}
 use Rattle.laws.proofs.Invariant.{Asked, Allowed}
 
 pub not_refused : {A : Type 0} (b : Bool) (x : A) (o : Option A) → refuse_if b x o ≡ None → (b ≡ false) × (o ≡ None)
-not_refused true x o e = absurd (some_none x (Some x) refl e)
+not_refused true x o e = absurd (none-some x (sym e))
 not_refused false x o e = (refl, e)
 
 pub not_there : {A : Type 0} (o : Option A) → present o ≡ false → o ≡ None

@@ -14,7 +14,7 @@ use Rattle.laws.proofs.Busy.{busy, busy_under}
 use Rattle.machine.specs.Refusals.{refusal}
 use Rattle.machine.specs.History.{Entry, History, runs, holder_of, unfinished, begins, ends, HeldSince, ceiling_under, HoldsUp}
 use Rattle.machine.specs.Laws.{NoExit, Only, BlockedOnce}
-use Rattle.laws.proofs.Sets.{some_none}
+use Rattle.std.proofs.lemmas.Option.{none-some}
 use Rattle.laws.proofs.Lists.{reaches_down, top, head_among, holder_cases, holder_here, holder_older, holder_tail, under_ceiling, under_cases}
 use Rattle.machine.specs.Shapes.{Single}
 use Rattle.laws.proofs.Invariant.{Allowed, blocked}
@@ -41,7 +41,7 @@ oldest_tail p (x ∷ xs) t l r (inl o) = inl o.2
 oldest_tail p (x ∷ xs) t l r (inr o) = inr o
 
 pick : (p : Plan) (xs : List (ℕ × ℕ)) (t : ℕ) → Free p xs t ⊎ ((l : ℕ) × (r : ℕ) × (l < t) × (reaches (ceiling p r) t ≡ true) × Oldest p xs t l r)
-pick p [] t = inl (λ r k h e. absurd (some_none k None h refl))
+pick p [] t = inl (λ r k h e. absurd (none-some k h))
 pick p (x ∷ xs) t = go (pick p xs t)
   where
     go : Free p xs t ⊎ ((l : ℕ) × (r : ℕ) × (l < t) × (reaches (ceiling p r) t ≡ true) × Oldest p xs t l r)

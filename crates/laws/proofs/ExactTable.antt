@@ -2,7 +2,7 @@
 use Rattle.std.proofs.Common.{◌≡◌, ℕ, ◌^◌, ◌<◌, Bool, true, false, cond, not, ◌&&◌, ◌||◌, eqb, ltb, leb, [], ◌∷◌, Some, None, Option, sym, refl, ap, ◌∙◌, subst, inr, ⊎_elim, arith}
 use mathlib.Core.Logic.{∥∥₁_elim}
 use mathlib.Core.Bool.{Bool-set}
-use Rattle.std.proofs.lemmas.Bool.{eq-eqb, both_ways, not-true, ltb-true, lt-ltb, lt-leb, ne_eqb, eqb-false, or_cases, or_left, or_right, or_from, and_parts, and_from, not_from_true, not_from_false, cases_Bool, false_from_ne_true}
+use Rattle.std.proofs.lemmas.Bool.{eq-eqb, both_ways, not-true, ltb-true, lt-ltb, lt-leb, ne_eqb, eqb-false, or_cases, or_left, or_right, or_from, and_parts, and_from, not_from_true, not_from_false, false_from_ne_true}
 use Rattle.plan.specs.declared.record.Plan.{Plan}
 use Rattle.machine.specs.declared.Call.{Call}
 use Rattle.machine.specs.declared.Call.TheVariants.{Install, Release, Lock}
@@ -119,9 +119,6 @@ module _ (p : Plan) (l t r : ℕ) (c : ℕ) (w : ℕ → Bool) (x : Case p l t r
 
   nobody : (k : ℕ) → w k ≡ true → ⊥
   nobody k e = both_ways (w k) (highest_empties c w fit_allowed.nobody k (x.set.inside k e)) e
-
-  nobody_yet : w t ≡ false
-  nobody_yet = ⊎_elim (λ (e : w t ≡ true). absurd (nobody t e)) (λ (e : w t ≡ false). e) (cases_Bool (w t))
 
   known_l : declares p l ≡ true
   known_l = user_declared p r l x.user

@@ -11,7 +11,7 @@ use Rattle.machine.specs.Refusals.{tasks_of, may_lock}
 use Rattle.machine.specs.History.{given}
 use Rattle.vectors.proofs.Vectors.{highest_empties}
 use Rattle.vectors.proofs.Vectors.{Greatest, highest_some}
-use Rattle.laws.proofs.Sets.{some_none}
+use Rattle.std.proofs.lemmas.Option.{none-some}
 use Rattle.laws.proofs.Lists.{among_cases, among_there, falling_tail, over_chain, top, head_among, tail_among, among_tail, holder_cases, single_tail, nested_tail, holder_tail, holds_none, reaches_down, under_ceiling, under_there, not_under, under_down}
 use Rattle.machine.specs.Shapes.{Falling, Single, Nested}
 
@@ -79,7 +79,7 @@ pub nobody_runs : (y : Schedule) → Empty y → running y ≡ None
 nobody_runs y s = ap (λ (c : List ℕ). head c) s.no_chain
 
 pub someone_runs : (y : Schedule) (k : ℕ) → Empty y → running y ≡ Some k → ⊥
-someone_runs y k s e = some_none k (running y) e (nobody_runs y s)
+someone_runs y k s e = none-some k (sym (nobody_runs y s) ∙ e)
 
 -- dispatch
 
@@ -218,7 +218,7 @@ new_suits q y f n s =
     nobody t z = both_ways (among y.chain t) (ap (λ (c : List ℕ). among c t) s.no_chain) z
 
     nothing : (r k : ℕ) → holder y.held r ≡ Some k → ⊥
-    nothing r k z = some_none k (holder y.held r) z (ap (λ (c : List (ℕ × ℕ)). holder c r) s.no_held)
+    nothing r k z = none-some k (sym (ap (λ (c : List (ℕ × ℕ)). holder c r) s.no_held) ∙ z)
 
 fit_suits : (o : Option Plan) (q : Plan) (y : Schedule) → Asked o q y → Shape y → Stands o y → Suits q y
 fit_suits (Some p) q y a h s = absurd a

@@ -10,7 +10,7 @@ use Rattle.machine.specs.Shapes.{Falling, Single, Nested}
 use Rattle.vectors.proofs.Bits.{or_false}
 use Rattle.vectors.proofs.Vectors.{highest_empties, in_small, in_none}
 use Rattle.vectors.proofs.Vectors.{highest_some}
-use Rattle.laws.proofs.Sets.{some_none}
+use Rattle.std.proofs.lemmas.Option.{none-some}
 
 -- chains
 
@@ -29,7 +29,7 @@ falling_tail (x ∷ xs) f = f.1
 
 -- the running task is the greatest that has started
 pub top : (xs : List ℕ) → Falling xs → (k t : ℕ) → head xs ≡ Some k → among xs t ≡ true → t ≤ k
-top [] f k t e h = absurd (some_none k None e refl)
+top [] f k t e h = absurd (none-some k e)
 top (x ∷ xs) f k t e h =
     let z : x ≡ k = same_Some x k e in
     ⊎_elim (λ (y : t ≡ x). omega arith) (λ (y : among xs t ≡ true). let w : t < x = f.0 t y in omega arith) (among_cases x xs t h)
@@ -43,7 +43,7 @@ over_chain (x ∷ xs) f w e t h =
     omega arith
 
 pub head_among : (xs : List ℕ) (k : ℕ) → head xs ≡ Some k → among xs k ≡ true
-head_among [] k e = absurd (some_none k None e refl)
+head_among [] k e = absurd (none-some k e)
 head_among (x ∷ xs) k e = subst (λ (i : ℕ). among (x ∷ xs) i ≡ true) (same_Some x k e) (among_here x xs)
 
 pub tail_among : (xs : List ℕ) (t : ℕ) → among (tail xs) t ≡ true → among xs t ≡ true
@@ -57,7 +57,7 @@ among_tail (x ∷ xs) k t e n h =
 
 pub nobody_heads : (xs : List ℕ) → head xs ≡ None → (t : ℕ) → among xs t ≡ false
 nobody_heads [] e t = refl
-nobody_heads (x ∷ xs) e t = absurd (some_none x (Some x) refl e)
+nobody_heads (x ∷ xs) e t = absurd (none-some x (sym e))
 
 -- held lists
 
@@ -81,7 +81,7 @@ single_tail (x ∷ xs) f = f.1
 
 pub holder_older : (x : ℕ × ℕ) (xs : List (ℕ × ℕ)) → Single (x ∷ xs) → (s k : ℕ) → holder xs s ≡ Some k → holder (x ∷ xs) s ≡ Some k
 holder_older x xs f s k e =
-    holder_there x.0 x.1 xs s (λ z. some_none k (holder xs s) e (subst (λ (i : ℕ). holder xs i ≡ None) (sym z) f.0)) ∙ e
+    holder_there x.0 x.1 xs s (λ z. none-some k (sym (subst (λ (i : ℕ). holder xs i ≡ None) (sym z) f.0) ∙ e)) ∙ e
 
 pub holder_tail : (xs : List (ℕ × ℕ)) → Single xs → (s k : ℕ) → holder (tail xs) s ≡ Some k → holder xs s ≡ Some k
 holder_tail [] f s k e = e
@@ -93,7 +93,7 @@ nested_tail (x ∷ xs) f = f.1
 
 -- who holds nothing is no holder
 pub holds_none : (xs : List (ℕ × ℕ)) (t : ℕ) → holds_any xs t ≡ false → (s k : ℕ) → holder xs s ≡ Some k → k ≡ t → ⊥
-holds_none [] t e s k h z = some_none k None h refl
+holds_none [] t e s k h z = none-some k h
 holds_none (x ∷ xs) t e s k h z =
     let q = or_parts (eqb t x.1) (holds_any xs t) e in
     ⊎_elim (λ (y : (s ≡ x.0) × (x.1 ≡ k)). eqb-false t x.1 q.0 (sym (y.1 ∙ z)))
@@ -101,7 +101,7 @@ holds_none (x ∷ xs) t e s k h z =
 
 -- after the newest lock is undone
 pub unlocked : (xs : List (ℕ × ℕ)) (r : ℕ) → Single xs → newest xs ≡ Some r → (s : ℕ) → cond (eqb s r) None (holder xs s) ≡ holder (tail xs) s
-unlocked [] r f e s = absurd (some_none r None e refl)
+unlocked [] r f e s = absurd (none-some r e)
 unlocked (x ∷ xs) r f e s = go (eqb s r) refl
   where
     z : x.0 ≡ r
@@ -165,7 +165,7 @@ under_cases p (x ∷ xs) t e =
         (cases_Bool (eqb h.0 x.0))
 
 pub not_under : (p : Plan) (xs : List (ℕ × ℕ)) (t : ℕ) → under_ceiling p xs t ≡ false → (r k : ℕ) → holder xs r ≡ Some k → reaches (ceiling p r) t ≡ false
-not_under p [] t e r k h = absurd (some_none k None h refl)
+not_under p [] t e r k h = absurd (none-some k h)
 not_under p (x ∷ xs) t e r k h =
     let q = or_parts (reaches (ceiling p x.0) t) (under_ceiling p xs t) (sym (under_newest p x xs t) ∙ e) in
     ⊎_elim (λ (y : (r ≡ x.0) × (x.1 ≡ k)). subst (λ (i : ℕ). reaches (ceiling p i) t ≡ false) (sym y.0) q.0)

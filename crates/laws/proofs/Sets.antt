@@ -1,13 +1,9 @@
--- Options, the greatest member of a set, strays, and the vector of one task.
-use Rattle.std.proofs.Common.{◌≡◌, ℕ, zero, suc, ◌^◌, ◌<◌, ◌≤◌, Bool, true, false, not, ◌&&◌, eqb, ltb, Some, None, Option, sym, refl, ◌∙◌, ⊎_elim, arith}
-use Rattle.std.proofs.lemmas.Option.{none-some}
+-- The greatest member of a set, strays, and the vector of one task.
+use Rattle.std.proofs.Common.{◌≡◌, ℕ, zero, suc, ◌^◌, ◌<◌, ◌≤◌, Bool, true, false, not, ◌&&◌, eqb, ltb, Some, refl, ⊎_elim, arith}
 use Rattle.std.proofs.lemmas.Bool.{both_ways, not-true, eqb-true, lt-ltb, eq-eqb, and_parts, or_from, and_from, cases_eq, false_from_ne_true}
 use Rattle.vectors.specs.Vectors.{in_vector, highest, some, strays}
 use Rattle.vectors.proofs.Bits.{bit, bit_one, bit_apart}
 use Rattle.vectors.proofs.Vectors.{Greatest, highest_is}
-
-pub some_none : {A : Type 0} (a : A) (o : Option A) → o ≡ Some a → o ≡ None → ⊥
-some_none a o e f = none-some a (sym f ∙ e)
 
 -- the greatest member below n
 

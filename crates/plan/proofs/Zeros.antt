@@ -5,6 +5,7 @@ use Rattle.vectors.specs.Vectors.{in_vector}
 use Rattle.vectors.proofs.Vectors.{in_none}
 use Rattle.plan.specs.Rows.{Inside}
 
+-- std reads a filled list inside it and past its end by two lemmas: with a case for each it would be no shorter
 pub zeros : (n i : ℕ) → ◌≡◌ {A = ℕ} (get_or (replicate n 0) i 0) 0
 zeros zero i = refl
 zeros (suc n) zero = refl

@@ -9,6 +9,7 @@ use Rattle.std.proofs.lemmas.Nat.Bits.{bit_at-suc, bit_at_and, bit_at_or, bit_at
 use Rattle.std.proofs.lemmas.Bool.{cases_eq, cases_lt, eq-eqb, ne_eqb}
 use Rattle.std.proofs.lemmas.Bool.Decides.{nat_tests}
 use Rattle.vectors.specs.Vectors.{on}
+-- std's names in short, as proofs of other crates cite them
 pub use Rattle.std.specs.Int.{bit_at as bit}
 pub use Rattle.std.proofs.lemmas.Nat.Bits.{bit_at_lowest as bit_first, bit_at-zero as bit_zero, bit_at_above as bit_above, bit_at-pow_same as bit_one, bit_at-pow_other as bit_apart}
 pub use Rattle.std.proofs.Math.Bool.{and-false as and_false, or-false as or_false}

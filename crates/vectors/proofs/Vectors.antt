@@ -8,7 +8,7 @@ use Rattle.std.proofs.lemmas.Bool.{cases_eq, cases_lt, lt-ltb, le-ltb, eq-eqb, n
 use Rattle.std.proofs.lemmas.Bool.Decides.{nat_tests}
 use Rattle.std.proofs.lemmas.Option.{same_Some}
 use Rattle.vectors.specs.Vectors.{on, in_vector, vector_of, with, without, highest, some, strays}
-use Rattle.std.specs.Int.{w64}
+use Rattle.std.specs.Int.{w64, bit_not}
 use Rattle.std.proofs.lemmas.Nat.Bits.{bit_at_and, bit_at_not, same_from_bits_below}
 use Rattle.vectors.proofs.Bits.{bit, bit_mod, bit_zero, bit_above, bit_top, on_or, shifted, shifted_is, switch_on, switch_off_low}
 
@@ -59,14 +59,11 @@ highest_power v c j h s low up =
 pub code_with : (v t : ℕ) → t < 64 → in_vector (bit_or v (shifted 64 t)) ≡ with t (in_vector v)
 code_with v t h = changed_below 64 t (λ e o. e || o) (on (bit_or v (shifted 64 t))) (on v) (λ o. refl) h (λ k l. switch_on 64 v t k h)
 
-pub code_without : (v t : ℕ) → t < 64 → in_vector (bit_and v (18446744073709551615 - shifted 64 t)) ≡ without t (in_vector v)
-code_without v t h = changed_below 64 t (λ e o. not e && o) (on (bit_and v (18446744073709551615 - shifted 64 t))) (on v) (λ o. refl) h (λ k l. switch_off_low w64 v t k h l)
+pub code_without : (v t : ℕ) → t < 64 → in_vector (bit_and v (bit_not w64 (shifted 64 t))) ≡ without t (in_vector v)
+code_without v t h = changed_below 64 t (λ e o. not e && o) (on (bit_and v (bit_not w64 (shifted 64 t)))) (on v) (λ o. refl) h (λ k l. switch_off_low w64 v t k h l)
 
 pub with_below : (v t c : ℕ) → t < c → c ≤ 64 → v < 2 ^ c → bit_or v (shifted 64 t) < 2 ^ c
 with_below v t c h s l = rw (shifted_is 64 t (omega arith)) (or_lt c v (2 ^ t) l (pow-lt h))
-
-pub without_below : (v m c : ℕ) → v < 2 ^ c → bit_and v m < 2 ^ c
-without_below v m c l = omega (arith, and_le_l v m)
 
 -- what is not there is not taken
 pub without_none : (t : ℕ) (m : ℕ → Bool) → m t ≡ false → m ≡ without t m
@@ -83,10 +80,10 @@ module _ (v w : ℕ) (big : v < 2 ^ 64) (wide : w < 2 ^ 64) where
   abbrev lacks : ℕ → Bool
   lacks t = in_vector v t && not (in_vector w t)
 
-  rest_bit : (k : ℕ) → k < 64 → bit (bit_and v (18446744073709551615 - w)) k ≡ min (bit v k) (1 - bit w k)
-  rest_bit k h = bit_at_and v (18446744073709551615 - w) k ∙ ap (min (bit v k)) (bit_at_not w64 w k wide h)
+  rest_bit : (k : ℕ) → k < 64 → bit (bit_and v (bit_not w64 w)) k ≡ min (bit v k) (1 - bit w k)
+  rest_bit k h = bit_at_and v (bit_not w64 w) k ∙ ap (min (bit v k)) (bit_at_not w64 w k wide h)
 
-  rest_false : (n : ℕ) → n ≤ 64 → some n lacks ≡ false → (k : ℕ) → k < n → bit (bit_and v (18446744073709551615 - w)) k ≡ 0
+  rest_false : (n : ℕ) → n ≤ 64 → some n lacks ≡ false → (k : ℕ) → k < n → bit (bit_and v (bit_not w64 w)) k ≡ 0
   unfolding some
   rest_false zero l e k h = absurd (omega arith)
   rest_false (suc n) l e k h =
@@ -96,22 +93,22 @@ module _ (v w : ℕ) (big : v < 2 ^ 64) (wide : w < 2 ^ 64) where
       (λ ne. rest_false n (omega arith) p.1 k (omega arith))
       (cases_eq k n)
 
-  rest_true : (n : ℕ) → n ≤ 64 → bit_and v (18446744073709551615 - w) ≡ 0 → some n lacks ≡ false
+  rest_true : (n : ℕ) → n ≤ 64 → bit_and v (bit_not w64 w) ≡ 0 → some n lacks ≡ false
   unfolding some
   rest_true zero l e = refl
   rest_true (suc n) l e =
       let b = rest_bit n (omega arith) in
-      let z : bit (bit_and v (18446744073709551615 - w)) n ≡ 0 = ap (λ x. bit x n) e ∙ bit_zero n in
+      let z : bit (bit_and v (bit_not w64 w)) n ≡ 0 = ap (λ x. bit x n) e ∙ bit_zero n in
       or_from (in_vector v n && not (in_vector w n)) (some n lacks) (grind (arith, nat_tests)) (rest_true n (omega arith) e)
 
-pub strays_is : (v w : ℕ) → v < 2 ^ 64 → w < 2 ^ 64 → not (eqb (bit_and v (18446744073709551615 - w)) 0) ≡ strays v (in_vector w)
+pub strays_is : (v w : ℕ) → v < 2 ^ 64 → w < 2 ^ 64 → not (eqb (bit_and v (bit_not w64 w)) 0) ≡ strays v (in_vector w)
 strays_is v w big wide = ⊎_elim
-    (λ (e : bit_and v (18446744073709551615 - w) ≡ 0). let f = rest_true v w big wide 64 (omega arith) e in grind (arith, nat_tests))
+    (λ (e : bit_and v (bit_not w64 w) ≡ 0). let f = rest_true v w big wide 64 (omega arith) e in grind (arith, nat_tests))
     (λ ne. ⊎_elim
     (λ (t : strays v (in_vector w) ≡ true). grind (arith, nat_tests))
-    (λ (f : strays v (in_vector w) ≡ false). absurd (ne (same_from_bits_below 64 (bit_and v (18446744073709551615 - w)) 0 (omega (arith, and_le_l v (18446744073709551615 - w))) (omega arith) (λ k l. rest_false v w big wide 64 (omega arith) f k l ∙ sym (bit_zero k)))))
+    (λ (f : strays v (in_vector w) ≡ false). absurd (ne (same_from_bits_below 64 (bit_and v (bit_not w64 w)) 0 (omega (arith, and_le_l v (bit_not w64 w))) (omega arith) (λ k l. rest_false v w big wide 64 (omega arith) f k l ∙ sym (bit_zero k)))))
     (cases_Bool (strays v (in_vector w))))
-    (cases_eq (bit_and v (18446744073709551615 - w)) 0)
+    (cases_eq (bit_and v (bit_not w64 w)) 0)
 
 -- the greatest member below n
 pub record Greatest (n : ℕ) (m : ℕ → Bool) (w : ℕ) : Type 0 where
@@ -182,14 +179,14 @@ pub empty_vector : (v : ℕ) → highest 64 (in_vector v) ≡ None → (k : ℕ)
 empty_vector v e k = ⊎_elim (λ (y : in_vector v k ≡ true). highest_empties 64 (in_vector v) e k (in_small v k y)) (λ f. f) (cases_Bool (in_vector v k))
 
 -- a vector is less without one of its tasks
-pub without_less : (v t : ℕ) → in_vector v t ≡ true → bit_and v (18446744073709551615 - shifted 64 t) < v
+pub without_less : (v t : ℕ) → in_vector v t ≡ true → bit_and v (bit_not w64 (shifted 64 t)) < v
 without_less v t y =
-    let w = bit_and v (18446744073709551615 - shifted 64 t) in
+    let w = bit_and v (bit_not w64 (shifted 64 t)) in
     ⊎_elim
     (λ (q : w ≡ v).
     let e : in_vector w t ≡ without t (in_vector v) t = ap (λ (f : ℕ → Bool). f t) (code_without v t (in_small v t y)) in
     absurd (false≢true (sym (e ∙ ap (λ b. not b && in_vector v t) (eq-eqb t t refl)) ∙ ap (λ x. in_vector x t) q ∙ y)))
-    (λ (ne : w ≡ v → ⊥). omega (arith, and_le_l v (18446744073709551615 - shifted 64 t), ne))
+    (λ (ne : w ≡ v → ⊥). omega (arith, and_le_l v (bit_not w64 (shifted 64 t)), ne))
     (cases_eq w v)
 
 some_one : (n : ℕ) (m : ℕ → Bool) → some n m ≡ true → (t : ℕ) × (m t ≡ true)

@@ -1,14 +1,17 @@
-use Rattle.std.proofs.Common.{ℕ, Bool, cond, ltb, sym, ap, ◌∙◌, ap₂}
-use Rattle.vectors.specs.Vectors.{in_vector, with}
+use Rattle.std.proofs.Common.{◌≡◌, ℕ, ◌<◌, Bool, true, cond, ltb, Some, Option, sym, ap, ◌∙◌, ap₂}
+use Rattle.vectors.specs.Vectors.{in_vector, with, highest}
 use Rattle.machine.specs.Schedules.{among}
 use Rattle.vectors.proofs.Vectors.{highest_tells, empty_vector}
 use Rattle.kernel.specs.Meaning.{schedule_of}
-use Rattle.kernel.specs.Parts.{marks_in}
 use Rattle.kernel.proofs.Joining.{joined, passed, put_in, all_there}
 use Rattle.kernel.proofs.kernel.Kernel.admit.Goals as goal
 
+-- the task that is taken next is one of those that are left
+taken : {o : Option ℕ} {t : ℕ} (rest : ℕ) → o ≡ highest 64 (in_vector rest) → o ≡ Some t → (t < 64) × (in_vector rest t ≡ true)
+taken {t = t} rest e is = highest_tells 64 t (in_vector rest) (sym e ∙ is)
+
 pub loop-t-smaller-then-not-has : goal.loop-t-smaller-then-not-has
-loop-t-smaller-then-not-has g c = c.without-rest.ensures.less (highest_tells 64 c.in-Some.t (in_vector c.loop-t.rest) (sym c.highest.ensures ∙ c.in-Some.is)).1
+loop-t-smaller-then-not-has g c = c.without-rest.ensures.less (taken c.loop-t.rest c.highest.ensures c.in-Some.is).1
 
 pub loop-t-preserved-then-not-has : goal.loop-t-preserved-then-not-has
 loop-t-preserved-then-not-has g c =
@@ -20,7 +23,7 @@ loop-t-preserved-then-not-has g c =
     let rest = c.loop-t.rest in
     let old = m.holds c.loop-t.self.set in
     let chained = among s.core.chain in
-    let top = highest_tells 64 t (in_vector rest) (sym c.highest.ensures ∙ c.in-Some.is) in (
+    let top = taken rest c.highest.ensures c.in-Some.is in (
       inv.0,
       c.put.ensures.kept ∙ inv.1,
       ap₂ (λ (f h : ℕ → Bool). joined n f h chained) c.without-rest.ensures.after (c.put.ensures.after ∙ ap (λ (j : ℕ). cond (ltb t j) (with t old) old) inv.1)
@@ -29,7 +32,7 @@ loop-t-preserved-then-not-has g c =
     )
 
 pub loop-t-smaller : goal.loop-t-smaller
-loop-t-smaller g c = c.without-rest.ensures.less (highest_tells 64 c.in-Some.t (in_vector c.loop-t.rest) (sym c.highest.ensures ∙ c.in-Some.is)).1
+loop-t-smaller g c = c.without-rest.ensures.less (taken c.loop-t.rest c.highest.ensures c.in-Some.is).1
 
 pub loop-t-preserved : goal.loop-t-preserved
 loop-t-preserved g c =
@@ -41,7 +44,7 @@ loop-t-preserved g c =
     let rest = c.loop-t.rest in
     let old = m.holds c.loop-t.self.set in
     let chained = among s.core.chain in
-    let top = highest_tells 64 t (in_vector rest) (sym c.highest.ensures ∙ c.in-Some.is) in (
+    let top = taken rest c.highest.ensures c.in-Some.is in (
       inv.0,
       inv.1,
       ap (λ (f : ℕ → Bool). joined n f old chained) c.without-rest.ensures.after
@@ -49,15 +52,12 @@ loop-t-preserved g c =
           ∙ inv.2,
     )
 
-pub returns : goal.returns
-returns g c =
+pub returns-clause-after : goal.returns-clause-after
+returns-clause-after g c =
     let m = g.R.WaitingSet in
     let s = c.args.self.now in
     let u = c.loop-t.self in
     let inv = c.loop-t.invariant in
     let rest = c.loop-t.rest in
     let done = all_there (m.room s.set) (in_vector rest) (m.holds u.set) (among s.core.chain) (empty_vector rest (sym c.highest.ensures ∙ c.in_default.is)) in
-    record {
-      after = ap (λ k. schedule_of k (m.room u.set) (m.holds u.set)) inv.0 ∙ ap₂ (λ (n : ℕ) (f : ℕ → Bool). schedule_of s.core n f) inv.1 (done ∙ inv.2);
-      marks = ap marks_in inv.0;
-    }
+    ap (λ k. schedule_of k (m.room u.set) (m.holds u.set)) inv.0 ∙ ap₂ (λ (n : ℕ) (f : ℕ → Bool). schedule_of s.core n f) inv.1 (done ∙ inv.2)

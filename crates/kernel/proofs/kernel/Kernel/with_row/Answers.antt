@@ -1,7 +1,6 @@
-use Rattle.std.proofs.Common.{◌≡◌, ℕ, ◌+◌, ◌^◌, ◌<◌, sym, ap, ◌∙◌, subst, arith}
+use Rattle.std.proofs.Common.{◌<◌, sym, ap, ◌∙◌, arith}
 use Rattle.vectors.specs.Vectors.{in_vector, with}
 use Rattle.std.proofs.lemmas.Bool.{lt-ltb, cond-true}
-use Rattle.kernel.specs.Parts.{below}
 use Rattle.kernel.proofs.Joining.{below_put, below_skip}
 use Rattle.kernel.proofs.kernel.Kernel.with_row.Goals as goal
 use Rattle.kernel.proofs.kernel.Kernel.with_row.Goals.{then-has, else-has}
@@ -12,17 +11,6 @@ loop-t-preserved g c =
     let t = c.loop-t.t in
     let small : t < 64 = omega (arith, c.requires.row) in
     elim c.if-has.branch [
-      | then-has w ↦ (
-        subst (λ (n : ℕ). n < 2 ^ 64) (sym w.members-is) w.with-members.type_inv,
-        ap in_vector w.members-is ∙ w.with-members.ensures.after ∙ cond-true _ _ _ (lt-ltb t 64 small) ∙ ap (with t) c.loop-t.invariant.1 ∙ below_put t m (sym c.has.ensures ∙ w.if-has.true),
-      )
-      | else-has w ↦ (
-        subst (λ (n : ℕ). n < 2 ^ 64) (sym w.members-is) c.loop-t.invariant.0,
-        ap in_vector w.members-is ∙ c.loop-t.invariant.1 ∙ below_skip t m (sym c.has.ensures ∙ w.if-has.false),
-      )
+      | then-has w ↦ ap in_vector w.members-is ∙ w.with-members.ensures.after ∙ cond-true _ _ _ (lt-ltb t 64 small) ∙ ap (with t) c.loop-t.invariant ∙ below_put t m (sym c.has.ensures ∙ w.if-has.true)
+      | else-has w ↦ ap in_vector w.members-is ∙ c.loop-t.invariant ∙ below_skip t m (sym c.has.ensures ∙ w.if-has.false)
     ]
-
-pub returns : goal.returns
-returns g c =
-    let m = g.R.WaitingSet.holds c.args.self.now.set in
-    c.loop-t.invariant.1 ∙ ap (λ n. below n m) (let e : c.loop-t.t ≡ c.args.first + 8 = omega arith in e)

@@ -2,9 +2,8 @@ use Rattle.std.proofs.Common.{◌≡◌, ℕ, ◌≤◌, false, List, length, re
 use Rattle.std.proofs.lemmas.List.{length-reverse}
 use Rattle.plan.specs.Plans.{reaches}
 use Rattle.machine.specs.Schedules.{head}
-use Rattle.kernel.specs.Lists.{IsChain}
 use Rattle.laws.proofs.Lists.{over_chain}
-use Rattle.kernel.proofs.Lists.{chain_room, chain_push, newest_of}
+use Rattle.kernel.proofs.Lists.{chain_room}
 use Rattle.kernel.proofs.state.Chain.push.Goals as goal
 
 pub push-requires : goal.push-requires
@@ -13,9 +12,3 @@ push-requires c =
     let above : reaches (head xs) c.args.w ≡ false = subst (λ ys. reaches (head ys) c.args.w ≡ false) (sym c.self.view_is) c.requires.above in
     let room : length xs ≤ c.args.w = chain_room xs c.args.w c.self.invariant.falling (over_chain xs c.self.invariant.falling c.args.w above) in
     (omega (arith, length-reverse c.self.inside.tasks.items, c.requires.small), omega (arith, length-reverse c.self.inside.tasks.items, c.requires.small))
-
-pub invariant_of-self : goal.invariant_of-self
-invariant_of-self c =
-    let xs : List ℕ = reverse c.self.inside.tasks.items in
-    let above : reaches (head xs) c.args.w ≡ false = subst (λ ys. reaches (head ys) c.args.w ≡ false) (sym c.self.view_is) c.requires.above in
-    subst (λ (ys : List ℕ). IsChain ys) (sym (newest_of _ c.self.inside.tasks.items c.args.w c.push.ensures.items)) (chain_push xs c.args.w c.self.invariant c.requires.small above)

@@ -4,6 +4,7 @@ use Rattle.kernel.specs.Changes.{unmarked}
 use Rattle.kernel.proofs.Marking.{marks_clear}
 use Rattle.kernel.proofs.state.Core.clear_mark.Goals as goal
 
+-- Only the marks need more than the check finds, but the contract is one definition, of which no part can be answered alone.
 pub returns : goal.returns
 returns c =
     let s = c.args.self.now in

@@ -3,11 +3,5 @@ use Rattle.machine.specs.Schedules.{among}
 use Rattle.kernel.proofs.Lists.{placed_tail}
 use Rattle.kernel.proofs.state.Core.end_running.Goals as goal
 
-pub invariant_of-self : goal.invariant_of-self
-invariant_of-self c =
-    let s = c.args.self.now in
-    record {
-      planned = s.planned;
-      placed = λ r k e. ap (λ xs. among xs k) c.pop.ensures ∙ placed_tail s.chain s.held c.requires s.placed r k e;
-      levels = s.levels;
-    }
+pub invariant_of-self-clause-placed : goal.invariant_of-self-clause-placed
+invariant_of-self-clause-placed c = let s = c.args.self.now in λ r k e. ap (λ xs. among xs k) c.pop.ensures ∙ placed_tail s.chain s.held c.requires s.placed r k e

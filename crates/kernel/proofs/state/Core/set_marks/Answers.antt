@@ -5,6 +5,7 @@ use Rattle.kernel.specs.Changes.{marked_too}
 use Rattle.kernel.proofs.Marking.{marks_set}
 use Rattle.kernel.proofs.state.Core.set_marks.Goals as goal
 
+-- Only the marks need more than the check finds, but the contract is one definition, of which no part can be answered alone.
 pub returns : goal.returns
 returns c =
     let s = c.args.self.now in
