@@ -48,6 +48,7 @@ fn gather(text: &[u8], names: &mut [NameRecord]) -> Result<Draft, PlanFault>
 // bound: the bound that the definitions put on the number of items is never reached;
 // nothing_left: cut just before its fault, a text is accepted or refused only for having ended;
 // nothing_right: every text that agrees through the byte after the faulty token has the same fault.
+#[tactic(auto, using(crate::proofs::Bounds::bound_free))]
 pub fn read(text: &[u8], names: &mut [NameRecord], plan: &mut Plan) -> Result<(), PlanFault>
     ensures value { result ≡ outcome text.now (length names.old) }
     ensures table { names.new ≡ table_after names.old }

@@ -1,19 +1,11 @@
 use Rattle.std.proofs.Common.{length, Ok, rules}
 use Rattle.oil.proofs.Understands.{understood_by}
-use Rattle.oil.proofs.Bounds.{bound_free}
 use Rattle.oil.proofs.Laws.{left_free, right_free}
 use Rattle.oil.proofs.reader.read.Goals as goal
-
-pub returns-then-names-lt-RECORDS-clause-bound : goal.returns-then-names-lt-RECORDS-clause-bound
-returns-then-names-lt-RECORDS-clause-bound c = bound_free c.args.text.now
 
 pub returns-in_err-draft-clause-meaning : goal.returns-in_err-draft-clause-meaning
 returns-in_err-draft-clause-meaning c =
     understood_by c.args.text.now (length c.args.names.now) c.args.plan.now c.args.plan.now c.from_residual.result (search rules) (search rules)
-
--- by one lemma it was tried: the three returns share no record that it could be over
-pub returns-in_err-draft-clause-bound : goal.returns-in_err-draft-clause-bound
-returns-in_err-draft-clause-bound c = bound_free c.args.text.now
 
 pub returns-in_err-draft-clause-nothing_left : goal.returns-in_err-draft-clause-nothing_left
 returns-in_err-draft-clause-nothing_left c = left_free c.args.text.now (length c.args.names.now) c.from_residual.result (search rules)
@@ -24,6 +16,3 @@ returns-in_err-draft-clause-nothing_right c = right_free c.args.text.now (length
 pub returns-clause-meaning : goal.returns-clause-meaning
 returns-clause-meaning c =
     understood_by c.args.text.now (length c.args.names.now) c.args.plan.now c.from.result (Ok tt) (search rules) (search rules)
-
-pub returns-clause-bound : goal.returns-clause-bound
-returns-clause-bound c = bound_free c.args.text.now
