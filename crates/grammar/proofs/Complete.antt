@@ -107,6 +107,7 @@ module _ (text : List ℕ) where
       let y = as_name_back x.0 (bytes_of text x.0) n x.0.what x.2 x.3 in
       (x.0, ap (λ r. and_then r (λ t. if_name t t.what)) x.1 ∙ y.0, y.1, x.4, (lex_on pos x.0 x.1 x.2).0, subst Named y.1 ((lex_goes text pos x.0 (lexed_ok (token_at text pos) x.0 x.1)).2 y.2))
 
+  -- Beside as_name_back: what is a name's is another thing to say than what is a number's, so each has its cases.
   as_numeral_back : (t : Token) (b : List ℕ) (n : ℕ) (x : What) → is_end x ≡ false → sign_by b x ≡ num n → if_number t x ≡ Ok (n, t)
   as_numeral_back t b n (what.Number m) e h = let s : m ≡ n = cc in ap (λ k. Ok (k, t)) s
   as_numeral_back t b n what.Name e h = let z : ◌≡◌ {A = ℕ} 0 1 = cc in absurd (omega arith)

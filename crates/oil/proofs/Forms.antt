@@ -143,6 +143,7 @@ module _ (all : List Object) (w : WellFormed all) where
         (distinct_mid (names_of all) (names_of before) n (names_of os) en w.names_differ, omega arith),
         allowed_on os (before ++ (resource n ∷ [])) (e ∙ sym (append_assoc before (resource n ∷ []) os)) g.1,
       )
+  -- As for a resource, with the other list: one lemma for both would take six facts, and be no shorter.
   allowed_on (event n ∷ os) before e g =
       let en = ap names_of e ∙ names_app before (event n ∷ os) in
       let size = ap length (ap events_of e ∙ events_app before (event n ∷ os)) ∙ length-append (events_of before) (n ∷ events_of os) in
