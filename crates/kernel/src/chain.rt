@@ -8,7 +8,7 @@ use crate::state::Chain;
 use arrayvec::ArrayVec;
 
 impl Chain {
-    // The chain of nobody.
+    // The chain of nobody. A derived `Default` would owe the invariant all the same, here and in the held list.
     pub(crate) fn new() -> Chain
         ensures { result ≡ [] }
     {

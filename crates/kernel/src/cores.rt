@@ -17,7 +17,7 @@ use plan::record::Plan;
 use vectors::{contains, strays};
 
 impl Core {
-    // No plan, nobody started, nothing held, no mark.
+    // No plan, nobody started, nothing held, no mark; written out, since a struct with ghost fields derives no `Default`.
     pub(crate) fn new() -> Core
         ensures { Blank result }
     {

@@ -10,7 +10,8 @@ use plan::record::Plan;
 use std::marker::Model;
 
 // The preemption chain: the tasks started and not ended, in starting order. Each task is above the one below it, so
-// that no more than 64 find a place. Contracts see the list, the newest first.
+// that no more than 64 find a place. Contracts see the list, the newest first. The held list is made alike, but what each
+// keeps, is asked and owes is another thing.
 #[derive(Drop)]
 pub struct Chain {
     pub(crate) tasks: ArrayVec<u8, 64>,

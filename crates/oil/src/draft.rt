@@ -46,7 +46,7 @@ impl Model for Draft {
     ghost inverse = { fields };
 }
 
-// The vector with this task alone.
+// The vector with this task alone, by the power that the draft's definition says.
 fn alone(task: u8) -> u64
     requires { task < 64 }
     ensures { result ≡ 2 ^ task }
@@ -75,7 +75,7 @@ fn one_more(count: u8, most: u8, place: usize) -> Result<u8, PlanFault>
 }
 
 impl Draft {
-    // A draft of nothing.
+    // A draft of nothing, written out: a derived `Default` would owe the invariant all the same.
     pub(crate) fn empty() -> Draft
         ensures { result ≡ empty_draft }
     {

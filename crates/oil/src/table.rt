@@ -5,7 +5,7 @@ ghost use Rattle.oil.specs.Table.{key_of, blank, meant, find, known_by};
 
 use grammar::item::Kind;
 
-// A name, filled up with zeros, and what it stands for: the kind of an object and its number, or no kind where the
+// A name, filled up with zeros to the fixed width of the caller's table, and what it stands for: the kind of an object and its number, or no kind where the
 // record is empty. The number stands beside the kind and not in it: a record is the caller's memory with public fields, and
 // a number in a record that holds nothing may come from there.
 #[derive(Clone, Copy, PartialEq, Debug)]
@@ -15,7 +15,7 @@ pub struct NameRecord {
     pub number: u8,
 }
 
-// What a name stands for: an object of this kind, and its number if it is a resource or an event.
+// What a name stands for: an object of this kind, and its number if it is a resource or an event, as in its record.
 #[derive(Clone, Copy, PartialEq, Debug)]
 pub(crate) struct Known {
     pub kind: Kind,

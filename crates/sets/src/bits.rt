@@ -1,5 +1,5 @@
-// One bit of a byte switched. For bytes alone: a set in a word switches its bits in place, and one function for both
-// widths would need bounds on four operators, and their laws, to save two operators.
+// One bit of a byte switched. `vectors::with` and `without` do it in 64 bits; over a byte widened for them each use would
+// owe that what comes back fits a byte.
 ghost use Rattle.std.specs.Prelude.{◌≡◌, ℕ, ◌<◌, ◌≤◌, not, ◌&&◌, ◌||◌, ◌==◌};
 ghost use Rattle.vectors.specs.Vectors.{on};
 

@@ -57,6 +57,7 @@ impl WaitingSet for TwoLevelSet {
         place(t).is_some_and(|(row, bit)| contains(u64::from(self.rows[row as usize]), bit))
     }
 
+    // The guard stands here and in `take`, of whose bodies nothing else is the same.
     fn put(&mut self, t: u8) -> bool {
         let Some((row, bit)) = place(t) else {
             return false;

@@ -11,7 +11,8 @@ fn place(bytes: &[u8], b: u8) -> Option<usize>
     bytes.iter().position(|x| *x == b)
 }
 
-// The bytes before the first b, and those after it where there is one.
+// The bytes before the first b, and those after it where there is one. `splitn` would give an iterator of both, of which
+// each caller would take the one and then the other.
 pub(crate) fn cut_at(bytes: &[u8], b: u8) -> (&[u8], Option<&[u8]>)
     ensures first { Lacks b result.0.now }
     ensures rest { MatchOption result.1 (bytes.now ≡ result.0.now) (λ rest. bytes.now ≡ result.0.now ++ b ∷ rest.now) }

@@ -17,7 +17,7 @@ fn hex_digit(d: u8) -> u8
 }
 
 impl Front {
-    // The empty text.
+    // The empty text, written out: a struct with a ghost field derives no `Default`.
     pub(crate) fn empty() -> Front
         ensures text { text_of result ≡ [] }
         ensures room { result.start ≡ 128 }
@@ -62,7 +62,7 @@ impl Front {
         requires { count ≤ self.old.start }
         ensures { Puts count (λ text. hex count v ++ text) self.old self.new }
     {
-        // By `put` for each digit a whole run took 9 % more instructions. The proof names the place.
+        // By `put` for each digit a whole run took 9 % more instructions. The proof names the place. A digit fits a byte.
         let mut left = v;
         let mut at = self.start;
         for _place in 0..count {
