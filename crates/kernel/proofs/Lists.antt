@@ -1,39 +1,41 @@
 -- One entry more and one less in the chain and in the held list.
+use mathlib.Core.Path.{fun_ext}
 use Rattle.std.proofs.lemmas.List.{reverse-append, length-map}
-use Rattle.std.proofs.lemmas.List.Sorted.{IsPermutation-reverse, list_any-IsPermutation}
 use Rattle.std.proofs.lemmas.Map.Keys.{IsDistinct-cons}
 use Rattle.std.proofs.lemmas.Map.Steps.{length-le_from_distinct_below}
 use Rattle.std.specs.Option.{option_to_list}
 use Rattle.std.specs.List.{AllByRecursion, IsDistinct, list_any}
-use Rattle.std.proofs.Common.{◌≡◌, ℕ, ◌<◌, ◌≤◌, Bool, true, false, cond, ◌||◌, eqb, List, [], ◌∷◌, ◌++◌, length, map, reverse, Some, None, Option, sym, refl, ap, ◌∙◌, subst, ⊎_elim, append-nil, arith}
-use Rattle.std.proofs.lemmas.Bool.{both_ways, cases_eq, eq-eqb, ne_eqb, cases_Bool, or_left, or_from, or_cases, and_parts, eqb-true}
+use Rattle.std.proofs.Common.{◌≡◌, ℕ, ◌<◌, ◌≤◌, Bool, true, false, cond, not, ◌&&◌, ◌||◌, eqb, ltb, List, [], ◌∷◌, ◌++◌, length, map, reverse, Some, None, Option, sym, refl, ap, ◌∙◌, subst, ⊎_elim, arith}
+use Rattle.std.proofs.lemmas.Bool.{both_ways, false_from_ne_true, cases_eq, eq-eqb, ne_eqb, cases_Bool, lt-ltb, cond-true, or_left, or_from, or_cases, and_parts, eqb-true}
+use Rattle.vectors.specs.Vectors.{in_vector, with, without}
+use Rattle.vectors.proofs.Vectors.{without_none}
+use Rattle.plan.specs.Plans.{reaches}
 use Rattle.plan.specs.declared.record.Plan.{Plan}
 use Rattle.machine.specs.Schedules.{head, tail, among, holder, holds_any, system_ceiling_under}
 use Rattle.machine.specs.Refusals.{present, same, holds_some}
 use Rattle.machine.specs.Shapes.{Falling, Single, Nested}
 use Rattle.std.proofs.lemmas.Option.{none-some}
-use Rattle.laws.proofs.Lists.{among_cases, among_here, among_there, holder_here, holder_older, holds_none}
+use Rattle.laws.proofs.Lists.{among_cases, among_here, among_there, over_chain, holder_here, holder_cases, holder_older, holds_none}
 use Rattle.kernel.specs.declared.held_lock.HeldLock.{HeldLock}
-use Rattle.kernel.specs.Lists.{IsChain, entries, IsHeldList, Placed, keeps_levels}
+use Rattle.kernel.specs.Lists.{IsChain, entries, is_held, IsHeldList, Placed, keeps_levels}
 
 -- the last of a vector is the newest of the list that contracts see
 pub newest_of : {A : Type 0} (xs ys : List A) (x : A) → xs ≡ ys ++ x ∷ [] → reverse xs ≡ x ∷ reverse ys
 newest_of xs ys x e = ap reverse e ∙ reverse-append ys (x ∷ [])
 
--- what a list keeps without its newest, it keeps when the vector gives up its last
-pub popped : {A : Type 0} (P : List A → Type 0) → ((x : A) (xs : List A) → P (x ∷ xs) → P xs) → (xs ys : List A) (o : Option A) → xs ≡ ys ++ option_to_list o → P (reverse xs) → P (reverse ys)
-popped P less xs ys None e h = subst (λ zs. P (reverse zs)) (e ∙ append-nil ys) h
-popped P less xs ys (Some x) e h = less x (reverse ys) (subst P (newest_of xs ys x e) h)
+-- what a list keeps, told with its newest apart, when the vector gives up its last
+pub given_up : {A : Type 0} (P : List A → Type 0) (xs ys : List A) (o : Option A) (x : A) → xs ≡ ys ++ option_to_list o → o ≡ Some x → P (reverse xs) → P (x ∷ reverse ys)
+given_up P xs ys o x e is = subst P (newest_of xs ys x (e ∙ ap (λ z. ys ++ option_to_list z) is))
+
+-- a number that is new to a set, put in and taken out again
+put_and_taken : (x : ℕ) (m : ℕ → Bool) → m x ≡ false → without x (with x m) ≡ m
+put_and_taken x m e = fun_ext (λ k. go (eqb k x) (m k)) ∙ sym (without_none x m e)
+  where
+    go : (a b : Bool) → (not a && (a || b)) ≡ (not a && b)
+    go true b = refl
+    go false b = refl
 
 -- chains
-
--- a task is in the chain where the search over its vector finds it
-found_any : (xs : List ℕ) (t : ℕ) → list_any (λ y. eqb y t) xs ≡ among xs t
-found_any [] t = refl
-found_any (x ∷ xs) t = ap (λ b. b || list_any (λ y. eqb y t) xs) (⊎_elim (λ (q : x ≡ t). eq-eqb x t q ∙ sym (eq-eqb t x (sym q))) (λ (ne : x ≡ t → ⊥). ne_eqb x t ne ∙ sym (ne_eqb t x (λ q. ne (sym q)))) (cases_eq x t)) ∙ ap (λ b. eqb t x || b) (found_any xs t)
-
-pub found_in : (xs : List ℕ) (t : ℕ) → list_any (λ y. eqb y t) xs ≡ among (reverse xs) t
-found_in xs t = list_any-IsPermutation (λ y. eqb y t) xs (reverse xs) (IsPermutation-reverse xs) ∙ found_any (reverse xs) t
 
 -- a falling list is no longer than what is above its newest
 pub chain_room : (xs : List ℕ) (w : ℕ) → Falling xs → ((t : ℕ) → among xs t ≡ true → t < w) → length xs ≤ w
@@ -43,16 +45,49 @@ chain_room (x ∷ xs) w f h =
     let b : length xs ≤ x = chain_room xs x f.1 f.0 in
     omega arith
 
-pub chain_pop : (x : ℕ) (xs : List ℕ) → IsChain (x ∷ xs) → IsChain xs
-chain_pop x xs c = record { falling = c.falling.1; small = λ t a. c.small t (among_there x xs t a) }
+pub chain_push : (v u w : ℕ) (xs : List ℕ) → w < 64 → reaches (head xs) w ≡ false → in_vector u ≡ cond (ltb w 64) (with w (in_vector v)) (in_vector v) → IsChain v xs → IsChain u (w ∷ xs)
+chain_push v u w xs l above e c = record {
+  falling = (over_chain xs c.falling w above, c.falling);
+  small = λ t a. ⊎_elim (λ (q : t ≡ w). omega arith) (λ (q : among xs t ≡ true). c.small t q) (among_cases w xs t a);
+  noted = e ∙ cond-true (ltb w 64) (with w (in_vector v)) (in_vector v) (lt-ltb w 64 l) ∙ ap (with w) c.noted;
+}
+
+pub chain_pop : (v u x : ℕ) (xs : List ℕ) → in_vector u ≡ without x (in_vector v) → IsChain v (x ∷ xs) → IsChain u xs
+chain_pop v u x xs e c =
+    let gone : among xs x ≡ false = false_from_ne_true (among xs x) (λ z. let l : x < x = c.falling.0 x z in omega arith) in
+    record {
+      falling = c.falling.1;
+      small = λ t a. c.small t (among_there x xs t a);
+      noted = e ∙ ap (without x) c.noted ∙ put_and_taken x (among xs) gone;
+    }
 
 -- held lists
 
-pub locked_less : (l : HeldLock) (ls : List HeldLock) → IsHeldList (l ∷ ls) → IsHeldList ls
-locked_less l ls h = record {
+one_held : (l : HeldLock) (ls : List HeldLock) → is_held (l ∷ ls) ≡ with l.resource (is_held ls)
+one_held l ls = fun_ext (λ r. go (eqb r l.resource) (holder (entries ls) r))
+  where
+    go : (b : Bool) (o : Option ℕ) → present (cond b (Some l.holder) o) ≡ (b || present o)
+    go true o = refl
+    go false o = refl
+
+pub newest_small : (v : ℕ) (l : HeldLock) (ls : List HeldLock) → IsHeldList v (l ∷ ls) → l.resource < 32
+newest_small v l ls h = h.small l.resource l.holder (holder_here l.resource l.holder (entries ls) l.resource refl)
+
+pub locked_more : (v u : ℕ) (l : HeldLock) (ls : List HeldLock) → l.resource < 32 → holder (entries ls) l.resource ≡ None → ((r k : ℕ) → holder (entries ls) r ≡ Some k → k ≤ l.holder)
+    → in_vector u ≡ cond (ltb l.resource 64) (with l.resource (in_vector v)) (in_vector v) → IsHeldList v ls → IsHeldList u (l ∷ ls)
+locked_more v u l ls low free above e h = record {
+  single = (free, h.single);
+  nested = (above, h.nested);
+  small = λ r k i. ⊎_elim (λ (q : (r ≡ l.resource) × (l.holder ≡ k)). omega (arith, q.0)) (λ (q : (r ≡ l.resource → ⊥) × (holder (entries ls) r ≡ Some k)). h.small r k q.1) (holder_cases (l.resource, l.holder) (entries ls) r k i);
+  noted = e ∙ cond-true (ltb l.resource 64) (with l.resource (in_vector v)) (in_vector v) (lt-ltb l.resource 64 (omega arith)) ∙ ap (with l.resource) h.noted ∙ sym (one_held l ls);
+}
+
+pub locked_less : (v u : ℕ) (l : HeldLock) (ls : List HeldLock) → in_vector u ≡ without l.resource (in_vector v) → IsHeldList v (l ∷ ls) → IsHeldList u ls
+locked_less v u l ls e h = record {
   single = h.single.1;
   nested = h.nested.1;
-  small = λ r k e. h.small r k (holder_older (l.resource, l.holder) (entries ls) h.single r k e);
+  small = λ r k i. h.small r k (holder_older (l.resource, l.holder) (entries ls) h.single r k i);
+  noted = e ∙ ap (without l.resource) (h.noted ∙ one_held l ls) ∙ put_and_taken l.resource (is_held ls) (ap present h.single.0);
 }
 
 -- the locks are as many as their resources, which are apart and below 32
@@ -79,8 +114,8 @@ unfolding IsDistinct
 distinct [] h = tt
 distinct (l ∷ ls) h = (lacks ls l.resource h.0, distinct ls h.1)
 
-pub held_room : (ls : List HeldLock) (r : ℕ) → IsHeldList ls → r < 32 → holder (entries ls) r ≡ None → length ls < 32
-held_room ls r h small free =
+pub held_room : (v : ℕ) (ls : List HeldLock) (r : ℕ) → IsHeldList v ls → r < 32 → holder (entries ls) r ≡ None → length ls < 32
+held_room v ls r h small free =
     let n = length-le_from_distinct_below (r ∷ locked ls) 32 (IsDistinct-cons eqb r (locked ls) (lacks ls r free) (distinct ls h.single)) (λ q e. ⊎_elim (λ (z : q ≡ r). omega arith)
     (λ (z : q ≡ r → ⊥). below q (sym (locked_any ls q) ∙ ap (λ b. b || list_any (eqb q) (locked ls)) (sym (ne_eqb q r z)) ∙ e)) (cases_eq q r)) in
     omega (arith, n, length-map ls (λ l. l.resource))
@@ -91,6 +126,11 @@ held_room ls r h small free =
 
     below : (q : ℕ) → present (holder (entries ls) q) ≡ true → q < 32
     below q e = here q (holder (entries ls) q) refl e
+
+-- an option is the same as itself
+pub same_self : (o : Option ℕ) → same o o ≡ true
+same_self None = refl
+same_self (Some x) = eq-eqb x x refl
 
 -- holders and the chain
 

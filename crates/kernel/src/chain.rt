@@ -6,6 +6,7 @@ ghost use Rattle.machine.specs.Shapes.{Falling};
 
 use crate::state::Chain;
 use arrayvec::ArrayVec;
+use vectors::{contains, with, without};
 
 impl Chain {
     // The chain of nobody. A derived `Default` would owe the invariant all the same, here and in the held list.
@@ -14,6 +15,7 @@ impl Chain {
     {
         Chain {
             tasks: ArrayVec::new(),
+            started: 0,
         }
     }
 
@@ -29,7 +31,7 @@ impl Chain {
     pub(crate) fn has(&self, t: u8) -> bool
         ensures { result ≡ among self.now t }
     {
-        self.tasks.as_slice().contains(&t)
+        contains(self.started, t)
     }
 
     // Starts task w above the running task.
@@ -39,12 +41,15 @@ impl Chain {
         ensures { self.new ≡ w ∷ self.old }
     {
         self.tasks.push(w);
+        self.started = with(self.started, w);
     }
 
     // Ends the running task, if there is one.
     pub(crate) fn pop(&mut self)
         ensures { self.new ≡ tail self.old }
     {
-        self.tasks.pop();
+        if let Some(t) = self.tasks.pop() {
+            self.started = without(self.started, t);
+        }
     }
 }

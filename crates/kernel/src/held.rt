@@ -8,6 +8,7 @@ ghost use Rattle.kernel.specs.Lists.{entries};
 use crate::held_lock::HeldLock;
 use crate::state::HeldList;
 use arrayvec::ArrayVec;
+use vectors::{contains, with, without};
 
 impl HeldList {
     // The list of nothing.
@@ -16,6 +17,7 @@ impl HeldList {
     {
         HeldList {
             locks: ArrayVec::new(),
+            taken: 0,
         }
     }
 
@@ -23,7 +25,7 @@ impl HeldList {
     pub(crate) fn has(&self, r: u16) -> bool
         ensures { result ≡ present (holder_in (entries self.now) r) }
     {
-        self.holder(r).is_some()
+        r < 32 && contains(self.taken, r as u8)
     }
 
     // Who holds resource r.
@@ -55,6 +57,7 @@ impl HeldList {
         ensures { self.new ≡ lock ∷ self.old }
     {
         self.locks.push(lock);
+        self.taken = with(self.taken, lock.resource as u8);
     }
 
     // Undoes the newest lock, if there is one.
@@ -62,6 +65,8 @@ impl HeldList {
         ensures after { self.new ≡ tail self.old }
         ensures single { Single (entries self.old) }
     {
-        self.locks.pop();
+        if let Some(lock) = self.locks.pop() {
+            self.taken = without(self.taken, lock.resource as u8);
+        }
     }
 }

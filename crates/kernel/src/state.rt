@@ -9,12 +9,13 @@ use arrayvec::ArrayVec;
 use plan::record::Plan;
 use std::marker::Model;
 
-// The preemption chain: the tasks started and not ended, in starting order. Each task is above the one below it, so
-// that no more than 64 find a place. Contracts see the list, the newest first. The held list is made alike, but what each
-// keeps, is asked and owes is another thing.
+// The preemption chain: the tasks started and not ended, in starting order, and the same tasks as a vector, which tells in
+// one step whether a task has started. Each task is above the one below it, so that no more than 64 find a place. Contracts
+// see the list, the newest first. The held list is made alike, but what each keeps, is asked and owes is another thing.
 #[derive(Drop)]
 pub struct Chain {
     pub(crate) tasks: ArrayVec<u8, 64>,
+    pub(crate) started: u64,
 }
 
 impl Model for Chain {
@@ -25,14 +26,16 @@ impl Model for Chain {
 
     ghost view = { λ c. reverse c.tasks.items };
 
-    ghost invariant = { λ c. IsChain (reverse c.tasks.items) };
+    ghost invariant = { λ c. IsChain c.started (reverse c.tasks.items) };
 }
 
-// The held list: the locks not undone, in locking order. No resource is held twice, so that no more than 32 find
-// a place. Contracts see the list of the locks, the newest first.
+// The held list: the locks not undone, in locking order, and their resources as a vector, which tells in one step whether
+// a resource is held. No resource is held twice, so that no more than 32 find a place. Contracts see the list of the locks,
+// the newest first.
 #[derive(Drop)]
 pub struct HeldList {
     pub(crate) locks: ArrayVec<HeldLock, 32>,
+    pub(crate) taken: u64,
 }
 
 impl Model for HeldList {
@@ -44,7 +47,7 @@ impl Model for HeldList {
 
     ghost view = { λ h. reverse h.locks.items };
 
-    ghost invariant = { λ h. IsHeldList (reverse h.locks.items) };
+    ghost invariant = { λ h. IsHeldList h.taken (reverse h.locks.items) };
 }
 
 // The installed plan, the chain, the held list, and a vector of marks for each event. Without a plan nothing is

@@ -1,6 +1,8 @@
 use Rattle.kernel.specs.Lists.{IsChain}
-use Rattle.kernel.proofs.Lists.{chain_pop, popped}
+use Rattle.kernel.proofs.Lists.{chain_pop, given_up}
 use Rattle.kernel.proofs.state.Chain.pop.Goals as goal
 
 pub invariant_of-self : goal.invariant_of-self
-invariant_of-self c = popped IsChain chain_pop c.self.inside.tasks.items c.pop.new.self.items c.pop.result c.pop.ensures.items c.self.invariant
+invariant_of-self c =
+    let v = c.self.inside.started in
+    chain_pop v _ c.in-Some.t _ c.without-self-inside.ensures.after (given_up (IsChain v) c.self.inside.tasks.items _ _ c.in-Some.t c.pop.ensures.items c.in-Some.is c.self.invariant)
