@@ -3,9 +3,11 @@ ghost use Rattle.std.specs.Prelude.{◌≡◌, IfOk};
 ghost use Rattle.sheet.specs.Entries.{entries_of};
 ghost use Rattle.sheet.specs.Tables.{ListsTable};
 
-use plan::entry::Entry;
 use plan::record::Plan;
 use std::alloc::{AllocError, Global};
+
+// What the list is made of, under this path too.
+pub use plan::entry::Entry;
 
 // All entries of the table, each once and in order; after each entry's three calls on a new kernel the lower task holds
 // up the higher. The only error is want of memory.

@@ -10,11 +10,11 @@ use kernel::kernel::Kernel;
 use machine::Call;
 use plan::entry::Entry;
 use plan::record::Plan;
+use runs::lists::run;
 use sets::waiting::WaitingSet;
 use sets::word::WordSet;
-use std::alloc::AllocError;
+use std::alloc::{AllocError, Global};
 use texts::sheets::{ShownCall, push_sheet_line};
-use transcripts::outputs::started;
 use transcripts::service::report_with;
 
 // Makes a call of the run that shows an entry, and adds its line.
@@ -32,20 +32,21 @@ fn push_call<R: WaitingSet>(
     push_sheet_line(out, e, shown, &report)
 }
 
-// Adds the three lines of an entry of the plan's table. The calls are those of `runs::entries::show_entry`; here a line
-// is told between them, and the kernel is not handed on.
-fn push_entry(out: &mut Vec<u8>, plan: &Plan, e: Entry) -> Result<(), AllocError>
+// Adds the three lines of an entry of the plan's table, on a kernel that has run its install. The calls are those of
+// `runs::entries::show_entry`; here a line is told between them, and the kernel is not handed on.
+fn push_entry(heap: Global, out: &mut Vec<u8>, plan: &Plan, e: Entry) -> Result<(), AllocError>
     requires { may_hold_up plan.now e.low e.high e.resource ≡ true }
     ensures { OnOk result (out.new.items ≡ out.old.items ++ entry_lines plan.now e) }
 {
-    let mut kernel = started(WordSet::new(64), *plan);
-    push_call(out, &mut kernel, e, ShownCall::Release(e.low))?;
-    push_call(out, &mut kernel, e, ShownCall::Lock(e.resource))?;
-    push_call(out, &mut kernel, e, ShownCall::Release(e.high))
+    let mut begun = run(heap, WordSet::new(64), &[Call::Install(*plan)])?;
+    push_call(out, &mut begun.kernel, e, ShownCall::Release(e.low))?;
+    push_call(out, &mut begun.kernel, e, ShownCall::Lock(e.resource))?;
+    push_call(out, &mut begun.kernel, e, ShownCall::Release(e.high))
 }
 
 // Adds the lines of the entries of the plan's table.
 pub(crate) fn push_entries(
+    heap: Global,
     out: &mut Vec<u8>,
     plan: &Plan,
     entries: &[Entry],
@@ -54,7 +55,7 @@ pub(crate) fn push_entries(
     ensures { OnOk result (out.new.items ≡ out.old.items ++ sheet_lines plan.now entries.now) }
 {
     for e in entries {
-        push_entry(out, plan, *e)?;
+        push_entry(heap, out, plan, *e)?;
     }
     Ok(())
 }

@@ -23,7 +23,7 @@ pub fn sheet_of(heap: Global, read: &Result<Plan, PlanFault>) -> Result<Vec<u8>,
     match read {
         Ok(plan) => {
             let all = entries(heap, plan)?;
-            push_entries(&mut out, plan, all.as_slice())?;
+            push_entries(heap, &mut out, plan, all.as_slice())?;
         }
         Err(fault) => Table::Sheet.push_fault(&mut out, fault.number(), fault.place())?,
     }

@@ -27,7 +27,7 @@ returns c =
     let s = c.new.result in
     let empty : ◌≡◌ {A = ℕ → Bool} (in_vector s.word) (λ t. false) = ap in_vector c.new.ensures.empty ∙ fun_ext in_none in
     let start : fresh s.size (in_vector s.word) ≡ fresh 64 (λ t. false) = ap₂ (λ (n : ℕ) (w : ℕ → Bool). fresh n w) c.new.ensures.size empty in
-    let begun = c.started-kernel.ensures ∙ ap (step (Install p)) start in
+    let begun = c.in_ok-begun.ensures.after ∙ ap (step (Install p)) start in
     let released = c.push_call.ensures.after ∙ ap₂ (λ (n : ℕ) (m : Machine). step (Release n) m) a begun in
     let locked = c.push_call-2.ensures.after ∙ ap (step (Lock r)) released in
     let one = ap₂ (λ (n : ℕ) (m : Machine). told_of (Release n) m) a begun in
