@@ -13,3 +13,4 @@ pub mod First
 pub mod Bounds
 pub mod Laws
 pub mod Keeps
+pub mod Walks

@@ -106,13 +106,13 @@ module _ {text : List ℕ} {goal : Drafted} {left names : List NameRecord} {d : 
       let w = g.within in
       ap (kept (g.fuel - 1) text names d s pos) is ∙ sym (left_step g.fuel text names d s pos (omega arith)) ∙ g.stays
 
-  going_done : (e : Draft) (after : List NameRecord) → Ok (Done e) ≡ advanced text (looked names) d s pos → after ≡ noted_at text names d (item_at text s pos) → (Ok e ≡ goal) × (after ≡ left)
+  pub going_done : (e : Draft) (after : List NameRecord) → Ok (Done e) ≡ advanced text (looked names) d s pos → after ≡ noted_at text names d (item_at text s pos) → (Ok e ≡ goal) × (after ≡ left)
   going_done e after is noted = (one (Ok (Done e)) is, noted ∙ table (Ok (Done e)) is)
 
-  going_fault : (f : PlanFault) (after : List NameRecord) → Err f ≡ advanced text (looked names) d s pos → after ≡ noted_at text names d (item_at text s pos) → (Err f ≡ goal) × (after ≡ left)
+  pub going_fault : (f : PlanFault) (after : List NameRecord) → Err f ≡ advanced text (looked names) d s pos → after ≡ noted_at text names d (item_at text s pos) → (Err f ≡ goal) × (after ≡ left)
   going_fault f after is noted = (one (Err f) is, noted ∙ table (Err f) is)
 
-  going_more : (e : Draft) (t : State) (q : ℕ) (after : List NameRecord) → Ok (More e t q) ≡ advanced text (looked names) d s pos → GoesOn pos (length text) after (More e t q) → after ≡ noted_at text names d (item_at text s pos) → Going text goal left after e t q
+  pub going_more : (e : Draft) (t : State) (q : ℕ) (after : List NameRecord) → Ok (More e t q) ≡ advanced text (looked names) d s pos → GoesOn pos (length text) after (More e t q) → after ≡ noted_at text names d (item_at text s pos) → Going text goal left after e t q
   going_more e t q after is on noted =
       let f = g.enough in
       let w = g.within in

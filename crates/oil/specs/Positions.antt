@@ -1,5 +1,5 @@
 -- Lines and columns.
-use Rattle.std.specs.Prelude.{ℕ, ◌+◌, Bool, not, List, reverse, take, count_by, ◌==◌}
+use Rattle.std.specs.Prelude.{ℕ, ◌+◌, Bool, cond, not, List, reverse, take, count_by, ◌==◌}
 use Rattle.std.specs.List.{prefix_len}
 use Rattle.oil.specs.declared.position.Position.{Position}
 
@@ -18,3 +18,7 @@ behind bs = record { line = 1 + count_by is_feed bs; column = 1 + prefix_len in_
 -- The position of a place in a text.
 abbrev pub position : List ℕ → ℕ → Position
 position text place = behind (take place text)
+
+-- One byte further.
+abbrev pub moved : Position → ℕ → Position
+moved at b = cond (b == 10) (record { line = at.line + 1; column = 1 }) (record { line = at.line; column = at.column + 1 })

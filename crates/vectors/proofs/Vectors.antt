@@ -60,7 +60,7 @@ pub code_with : (v t : ℕ) → t < 64 → in_vector (bit_or v (shifted 64 t)) �
 code_with v t h = changed_below 64 t (λ e o. e || o) (on (bit_or v (shifted 64 t))) (on v) (λ o. refl) h (λ k l. switch_on 64 v t k h)
 
 pub code_without : (v t : ℕ) → t < 64 → in_vector (bit_and v (bit_not w64 (shifted 64 t))) ≡ without t (in_vector v)
-code_without v t h = changed_below 64 t (λ e o. not e && o) (on (bit_and v (bit_not w64 (shifted 64 t)))) (on v) (λ o. refl) h (λ k l. switch_off_low w64 v t k h l)
+code_without v t h = changed_below 64 t (λ e o. not e && o) (on (bit_and v (bit_not w64 (shifted 64 t)))) (on v) (λ o. refl) h (λ k l. switch_off_low 64 v t k h l)
 
 pub with_below : (v t c : ℕ) → t < c → c ≤ 64 → v < 2 ^ c → bit_or v (shifted 64 t) < 2 ^ c
 with_below v t c h s l = rw (shifted_is 64 t (omega arith)) (or_lt c v (2 ^ t) l (pow-lt h))
