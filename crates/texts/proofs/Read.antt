@@ -9,11 +9,11 @@ use Rattle.texts.proofs.Cuts.{lacks_take, pieces_some, pieces_cut, pieces_last, 
 
 -- The CR that ends a line.
 module _ (l : List ℕ) where
-  return_cut : get_or l (length l - 1) 0 ≡ 13 → without_return l ≡ take (length l - 1) l
+  pub return_cut : get_or l (length l - 1) 0 ≡ 13 → without_return l ≡ take (length l - 1) l
   unfolding without_return
   return_cut e = cond-true _ _ _ (eq-eqb _ 13 e)
 
-  return_none : (get_or l (length l - 1) 0 ≡ 13 → ⊥) → without_return l ≡ l
+  pub return_none : (get_or l (length l - 1) 0 ≡ 13 → ⊥) → without_return l ≡ l
   unfolding without_return
   return_none e = cond-false _ _ _ (ne_eqb _ 13 e)
 
@@ -55,7 +55,7 @@ stripped l h = go (eqb (get_or l (length l - 1) 0) 13) refl where
   go true is = (lacks_take 10 (length l - 1) l h, inl (last_split l (eqb-true _ 13 is)))
   go false is = (h, inr (refl, no_last l (eqb-false _ 13 is)))
 
-begins_line : (l rest : List ℕ) → Lacks 10 l → Begins (without_return l) rest (l ++ 10 ∷ rest)
+pub begins_line : (l rest : List ℕ) → Lacks 10 l → Begins (without_return l) rest (l ++ 10 ∷ rest)
 begins_line l rest h =
     let r = without_return l in
     let s = stripped l h in (

@@ -1,6 +1,15 @@
 // Numbers read from digits.
-ghost use Rattle.std.specs.Prelude.{◌≡◌, ◌^◌, ◌≤◌};
+ghost use Rattle.std.specs.Prelude.{◌≡◌, ◌^◌, ◌<◌, ◌≤◌, SomeIff};
+ghost use Rattle.std.specs.Char.{digit_value};
 ghost use Rattle.texts.specs.Digits.{number, number_field, vector_field};
+
+// What a byte is worth as a digit; none where it is no digit below the radix.
+fn digit(b: u8, radix: u32) -> Option<u32>
+    requires { (2 ≤ radix) × (radix ≤ 36) }
+    ensures { SomeIff result (digit_value b < radix) (digit_value b) }
+{
+    char::from(b).to_digit(radix)
+}
 
 // The number that a field of 1 to `most` digits spells; none where it has anything else.
 fn read_digits(field: &[u8], radix: u32, most: usize) -> Option<u64>
@@ -14,8 +23,8 @@ fn read_digits(field: &[u8], radix: u32, most: usize) -> Option<u64>
     // A loop: a fold, whose closure would owe that each product fits, reads no plainer.
     let mut value = 0;
     for b in field {
-        let digit = char::from(*b).to_digit(radix)?;
-        value = value * u64::from(radix) + u64::from(digit);
+        let worth = digit(*b, radix)?;
+        value = value * u64::from(radix) + u64::from(worth);
     }
     Some(value)
 }

@@ -1,4 +1,4 @@
-use Rattle.std.proofs.Common.{◌≡◌, ℕ, ◌*◌, ◌<◌, length, get_or, Some, sym, ap, ◌∙◌, subst, arith, true-eqb, false-eqb}
+use Rattle.std.proofs.Common.{◌≡◌, ℕ, ◌*◌, ◌<◌, length, get_or, Some, sym, ap, ◌∙◌, arith, true-eqb, false-eqb}
 use Rattle.std.specs.Char.{digit_value}
 use Rattle.std.specs.Str.Parse.{digits_value}
 use Rattle.std.proofs.lemmas.Int.Digits.{digits_value_more}
@@ -15,33 +15,29 @@ returns-then-is_empty c =
       | then-is_empty-via-else-is_empty+then-field-most w ↦ number_long _ _ _ w.if-field-most.true
     ]
 
-pub returns-in_err-digit : goal.returns-in_err-digit
-returns-in_err-digit c =
-    let none : digit_value (get_or c.args.field.now c.loop-b.b-index 0) < c.args.radix → ⊥ = subst (λ k. digit_value k < c.args.radix → ⊥) c.from.ensures c.in_err-digit.ensures.value in
+pub returns-in_err-worth : goal.returns-in_err-worth
+returns-in_err-worth c =
+    let none : digit_value (get_or c.args.field.now c.loop-b.b-index 0) < c.args.radix → ⊥ = c.in_err-worth.ensures in
     c.from_residual.ensures ∙ number_not _ _ _ c.loop-b.b-index c.loop-b-test.true (omega (arith, none))
-
--- What a digit of the byte x is, it is of the byte at its place.
-read : (radix x y d : ℕ) → x ≡ y → (digit_value x < radix) × (d ≡ digit_value x) → (digit_value y < radix) × (d ≡ digit_value y)
-read radix x y d e h = subst (λ k. (digit_value k < radix) × (d ≡ digit_value k)) e h
 
 pub overflow_mul-value : goal.overflow_mul-value
 overflow_mul-value c =
-    let d = read _ _ _ _ c.from.ensures c.in_ok-digit.ensures.value in
+    let d = c.in_ok-worth.ensures in
     let h = room c.args.radix c.args.most c.loop-b.b-index c.args.field.now c.requires.radix.0 c.requires.room (omega arith) c.loop-b-test.true c.loop-b.invariant.0 d.0 in
-    omega (arith, h, ap (λ v. v * c.args.radix) c.loop-b.invariant.1, ap (λ r. c.loop-b.value * r) c.from-in-loop-b.ensures)
+    omega (arith, h, ap (λ v. v * c.args.radix) c.loop-b.invariant.1, ap (λ r. c.loop-b.value * r) c.from.ensures)
 
 pub overflow_add-value : goal.overflow_add-value
 overflow_add-value c =
-    let d = read _ _ _ _ c.from.ensures c.in_ok-digit.ensures.value in
+    let d = c.in_ok-worth.ensures in
     let h = room c.args.radix c.args.most c.loop-b.b-index c.args.field.now c.requires.radix.0 c.requires.room (omega arith) c.loop-b-test.true c.loop-b.invariant.0 d.0 in
-    omega (arith, h, d.1, ap (λ v. v * c.args.radix) c.loop-b.invariant.1, ap (λ r. c.loop-b.value * r) c.from-in-loop-b.ensures, c.from-in-loop-b-2.ensures)
+    omega (arith, h, d.1, ap (λ v. v * c.args.radix) c.loop-b.invariant.1, ap (λ r. c.loop-b.value * r) c.from.ensures, c.from-in-loop-b.ensures)
 
 pub loop-b-preserved : goal.loop-b-preserved
 loop-b-preserved c =
-    let d = read _ _ _ _ c.from.ensures c.in_ok-digit.ensures.value in
+    let d = c.in_ok-worth.ensures in
     let e = digits_value_more c.args.radix c.args.field.now c.loop-b.b-index c.loop-b-test.true in (
       digits_more _ _ _ c.loop-b-test.true c.loop-b.invariant.0 d.0,
-      omega (arith, e, d.1, ap (λ v. v * c.args.radix) c.loop-b.invariant.1, ap (λ r. c.loop-b.value * r) c.from-in-loop-b.ensures, c.from-in-loop-b-2.ensures),
+      omega (arith, e, d.1, ap (λ v. v * c.args.radix) c.loop-b.invariant.1, ap (λ r. c.loop-b.value * r) c.from.ensures, c.from-in-loop-b.ensures),
     )
 
 pub returns : goal.returns
