@@ -49,7 +49,7 @@ pub chain_push : (v u w : ℕ) (xs : List ℕ) → w < 64 → reaches (head xs) 
 chain_push v u w xs l above e c = record {
   falling = (over_chain xs c.falling w above, c.falling);
   small = λ t a. ⊎_elim (λ (q : t ≡ w). omega arith) (λ (q : among xs t ≡ true). c.small t q) (among_cases w xs t a);
-  noted = e ∙ cond-true (ltb w 64) (with w (in_vector v)) (in_vector v) (lt-ltb w 64 l) ∙ ap (with w) c.noted;
+  noted = λ t. ap (λ (f : ℕ → Bool). f t) (e ∙ cond-true (ltb w 64) (with w (in_vector v)) (in_vector v) (lt-ltb w 64 l)) ∙ ap (λ b. eqb t w || b) (c.noted t);
 }
 
 pub chain_pop : (v u x : ℕ) (xs : List ℕ) → in_vector u ≡ without x (in_vector v) → IsChain v (x ∷ xs) → IsChain u xs
@@ -58,13 +58,13 @@ chain_pop v u x xs e c =
     record {
       falling = c.falling.1;
       small = λ t a. c.small t (among_there x xs t a);
-      noted = e ∙ ap (without x) c.noted ∙ put_and_taken x (among xs) gone;
+      noted = λ t. ap (λ (f : ℕ → Bool). f t) e ∙ ap (λ b. not (eqb t x) && b) (c.noted t) ∙ ap (λ (f : ℕ → Bool). f t) (put_and_taken x (among xs) gone);
     }
 
 -- held lists
 
-one_held : (l : HeldLock) (ls : List HeldLock) → is_held (l ∷ ls) ≡ with l.resource (is_held ls)
-one_held l ls = fun_ext (λ r. go (eqb r l.resource) (holder (entries ls) r))
+one_held : (l : HeldLock) (ls : List HeldLock) (r : ℕ) → is_held (l ∷ ls) r ≡ with l.resource (is_held ls) r
+one_held l ls r = go (eqb r l.resource) (holder (entries ls) r)
   where
     go : (b : Bool) (o : Option ℕ) → present (cond b (Some l.holder) o) ≡ (b || present o)
     go true o = refl
@@ -79,7 +79,7 @@ locked_more v u l ls low free above e h = record {
   single = (free, h.single);
   nested = (above, h.nested);
   small = λ r k i. ⊎_elim (λ (q : (r ≡ l.resource) × (l.holder ≡ k)). omega (arith, q.0)) (λ (q : (r ≡ l.resource → ⊥) × (holder (entries ls) r ≡ Some k)). h.small r k q.1) (holder_cases (l.resource, l.holder) (entries ls) r k i);
-  noted = e ∙ cond-true (ltb l.resource 64) (with l.resource (in_vector v)) (in_vector v) (lt-ltb l.resource 64 (omega arith)) ∙ ap (with l.resource) h.noted ∙ sym (one_held l ls);
+  noted = λ r. ap (λ (f : ℕ → Bool). f r) (e ∙ cond-true (ltb l.resource 64) (with l.resource (in_vector v)) (in_vector v) (lt-ltb l.resource 64 (omega arith))) ∙ ap (λ b. eqb r l.resource || b) (h.noted r) ∙ sym (one_held l ls r);
 }
 
 pub locked_less : (v u : ℕ) (l : HeldLock) (ls : List HeldLock) → in_vector u ≡ without l.resource (in_vector v) → IsHeldList v (l ∷ ls) → IsHeldList u ls
@@ -87,7 +87,7 @@ locked_less v u l ls e h = record {
   single = h.single.1;
   nested = h.nested.1;
   small = λ r k i. h.small r k (holder_older (l.resource, l.holder) (entries ls) h.single r k i);
-  noted = e ∙ ap (without l.resource) (h.noted ∙ one_held l ls) ∙ put_and_taken l.resource (is_held ls) (ap present h.single.0);
+  noted = λ r. ap (λ (f : ℕ → Bool). f r) e ∙ ap (λ b. not (eqb r l.resource) && b) (h.noted r ∙ one_held l ls r) ∙ ap (λ (f : ℕ → Bool). f r) (put_and_taken l.resource (is_held ls) (ap present h.single.0));
 }
 
 -- the locks are as many as their resources, which are apart and below 32

@@ -11,7 +11,7 @@ use Rattle.kernel.specs.declared.held_lock.HeldLock.{HeldLock}
 pub record IsChain (v : ℕ) (xs : List ℕ) : Type 0 where
   pub falling : Falling xs
   pub small : (t : ℕ) → among xs t ≡ true → t < 64
-  pub noted : in_vector v ≡ among xs
+  pub noted : (t : ℕ) → in_vector v t ≡ among xs t
 
 -- The resources and holders of the locks.
 abbrev pub entries : List HeldLock → List (ℕ × ℕ)
@@ -28,7 +28,7 @@ pub record IsHeldList (v : ℕ) (ls : List HeldLock) : Type 0 where
   pub single : Single (entries ls)
   pub nested : Nested (entries ls)
   pub small : (r k : ℕ) → holder (entries ls) r ≡ Some k → r < 32
-  pub noted : in_vector v ≡ is_held ls
+  pub noted : (r : ℕ) → in_vector v r ≡ is_held ls r
 
 -- The holders have started.
 abbrev pub Placed : List ℕ → List HeldLock → Type 0
